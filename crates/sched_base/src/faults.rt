@@ -1,6 +1,22 @@
+ghost use Rattle.std.specs.Prelude.{◌≡◌};
+
+use std::alloc::{AllocError, AllocFailed};
+
 /// Memory was refused.
 #[derive(Clone, Copy, Debug, PartialEq, Eq)]
 pub struct NoMemory;
+
+impl From<AllocError> for NoMemory {
+    fn from(_refused: AllocError) -> NoMemory {
+        NoMemory
+    }
+}
+
+impl<T: Drop> From<AllocFailed<T>> for NoMemory {
+    fn from(_refused: AllocFailed<T>) -> NoMemory {
+        NoMemory
+    }
+}
 
 /// A call of the outside failed, and counted it.
 #[derive(Clone, Copy, Debug, PartialEq, Eq)]
