@@ -1,1 +1,3 @@
 pub mod Project
+pub mod Schedule
+pub mod Chain

@@ -1,0 +1,53 @@
+-- Schedules, and what they take of the resources. Periods count from 0; a job with start s and duration p is active in
+-- the periods s to s + p - 1, and in none where p is 0.
+use Rattle.std.specs.Prelude.{◌≡◌, ℕ, ◌+◌, ◌<◌, ◌≤◌, max, ◌&&◌, Bool, List, [], ◌∷◌, length, nat_le, nat_lt, sum_by, filter, All, Contains}
+use Rattle.rcpsp_model.specs.declared.parts.Entry.{Entry}
+use Rattle.rcpsp_model.specs.declared.parts.Placing.{Placing}
+use Rattle.rcpsp_model.specs.Project.{Project, duration, request, need, capacity, budget, job_count, Before, IsMode, IsRenewable, IsNonrenewable}
+
+-- the first period after the entry
+abbrev pub finish : Project → Entry → ℕ
+finish P e = e.start + duration P e.job e.mode
+
+abbrev pub is_active : Project → ℕ → Entry → Bool
+is_active P t e = nat_le e.start t && nat_lt t (finish P e)
+
+-- what the entries take of a renewable resource in a period
+abbrev pub usage : Project → List Entry → ℕ → ℕ → ℕ
+usage P es k t = sum_by (λ e. request P e.job e.mode k) (filter (is_active P t) es)
+
+-- what the entries take of a nonrenewable resource
+abbrev pub used : Project → List Entry → ℕ → ℕ
+used P es l = sum_by (λ e. need P e.job e.mode l) es
+
+-- the greatest finish, 0 where there is no entry
+abbrev pub end_of : Project → List Entry → ℕ
+end_of P [] = 0
+end_of P (e ∷ es) = max (finish P e) (end_of P es)
+
+-- what there is of a renewable resource in a period
+unfoldable pub cap : Project → ℕ → ℕ → ℕ
+cap P k t = capacity P k
+
+-- from this period on each capacity is whole
+unfoldable pub calm : Project → ℕ
+calm P = 0
+
+-- A schedule is a list with one placing for each job, in the order of the jobs.
+
+-- the placings as entries of the jobs from j on
+abbrev pub entries_from : ℕ → List Placing → List Entry
+entries_from j [] = []
+entries_from j (p ∷ ps) = record { job = j; mode = p.mode; start = p.start } ∷ entries_from (j + 1) ps
+
+-- the entries of a schedule
+abbrev pub entries : List Placing → List Entry
+entries s = entries_from 1 s
+
+-- a schedule that keeps every precedence, capacity and budget
+pub record IsFeasible (P : Project) (s : List Placing) : Type 0 where
+  pub whole : length s ≡ job_count P
+  pub modes : All (λ e. IsMode P e.job e.mode) (entries s)
+  pub precedence : (a b : Entry) → Contains (entries s) a → Contains (entries s) b → Before P a.job b.job → finish P a ≤ b.start
+  pub capacity : (k t : ℕ) → IsRenewable P k → t < end_of P (entries s) → usage P (entries s) k t ≤ cap P k t
+  pub budgets : (l : ℕ) → IsNonrenewable P l → used P (entries s) l ≤ budget P l
