@@ -5,8 +5,17 @@ mod faults;
 mod job;
 mod job_set;
 mod list;
+mod listed;
+mod mem_shelf;
+mod mem_sink;
+mod outside;
+mod writing;
 
 pub use faults::{Failed, NoMemory};
 pub use job::Job;
 pub use job_set::JobSet;
 pub use list::List;
+pub use mem_shelf::MemShelf;
+pub use mem_sink::MemSink;
+pub use outside::{Gate, OpenGate, Shelf, Sink};
+pub use writing::write_whole;
