@@ -1,0 +1,11 @@
+//! The program: words, the top call, and the adapters to files and streams.
+#![tactic(auto)]
+
+mod file_shelf;
+mod reading;
+mod status;
+mod std_sink;
+mod stop;
+mod words;
+
+fn main(_rt: HostRuntime) {}

@@ -1,0 +1,44 @@
+ghost use Rattle.std.specs.Prelude.{◌≡◌};
+ghost use Rattle.schedule_cli.specs.Status.{number_of};
+
+/// How a run ended.
+#[derive(Clone, Copy, Debug, PartialEq, Eq)]
+pub enum Status {
+    /// The plan is optimal, the report accepted, or the text written.
+    Done,
+    /// No plan is feasible.
+    Infeasible,
+    /// The search ended at its limit.
+    Limit,
+    /// The report isn't accepted.
+    ReportRefused,
+    /// The words are no command.
+    BadWords,
+    /// The project text isn't read.
+    BadProject,
+    /// A call of the shelf failed.
+    ReadFault,
+    /// A call of the sink failed.
+    WriteFault,
+    /// Memory was refused.
+    NoMemory,
+}
+
+impl Status {
+    /// The number that the program ends with, 0 to 8.
+    pub fn number(self) -> u8
+        ensures { result ≡ number_of self }
+    {
+        match self {
+            Status::Done => 0,
+            Status::Infeasible => 1,
+            Status::Limit => 2,
+            Status::ReportRefused => 3,
+            Status::BadWords => 4,
+            Status::BadProject => 5,
+            Status::ReadFault => 6,
+            Status::WriteFault => 7,
+            Status::NoMemory => 8,
+        }
+    }
+}
