@@ -4,4 +4,4 @@
 
 mod parts;
 
-pub use parts::{Entry, Mode, Placing};
+pub use parts::{Child, Entry, Mode, Placing, Shut, Verdict};
