@@ -9,3 +9,4 @@ pub mod Rank
 pub mod Plan
 pub mod Claim
 pub mod Log
+pub mod Laws

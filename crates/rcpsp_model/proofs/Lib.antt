@@ -1,0 +1,12 @@
+pub mod Lists
+pub mod Numbers
+pub mod Entries
+pub mod Changed
+pub mod Usage
+pub mod ModeLemmas
+pub mod ExchangeLemmas
+pub mod FrontLemmas
+pub mod BoundLemmas
+pub mod DominanceLemmas
+pub mod PlanLemmas
+pub mod LogLemmas
