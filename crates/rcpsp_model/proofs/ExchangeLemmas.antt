@@ -14,7 +14,7 @@ use Rattle.rcpsp_model.specs.Laws.{Exchange, ExchangeLaw}
 use Rattle.rcpsp_model.proofs.Lists.{total-le, In, In-push, In-from_Contains, Contains-from_In, All-from_In, In-All, total, sum_by-total, total-zero, In-le-total, IsFirst, first_failing, NoLater}
 use Rattle.rcpsp_model.proofs.Numbers.{least_of}
 use Rattle.rcpsp_model.proofs.Entries.{DistinctJobs, has_job-In, entry_of, same_entry, total-others, entries-distinct, entry_at, job-from, job-below, distinct-push, has_job-push_false}
-use Rattle.rcpsp_model.proofs.ModeLemmas.{least_need-le, rest_need-entries, efficient_mode, cond-mono}
+use Rattle.rcpsp_model.proofs.ModeLemmas.{least_need-le, sum_by-unplaced, efficient_mode, cond-mono}
 use Rattle.rcpsp_model.proofs.Changed.{changed, entry, length-changed, In-changed, In-changed_other, In-changed_new, total-changed}
 use Rattle.rcpsp_model.proofs.Usage.{load, usage-total, load-active, load-before, load-after, finish-le-end, end-le, cap-le-capacity, can_start_decided}
 
@@ -235,7 +235,7 @@ moved-completes P a F s e o t f c n mode el can le less = record {
     ]
 
 -- a mode in a feasible schedule is executable
-feasible-executable : (P : Project) (s : List Placing) (e : Entry) → IsFeasible P s → In (entries s) e → IsExecutable P e.job e.mode
+pub feasible-executable : (P : Project) (s : List Placing) (e : Entry) → IsFeasible P s → In (entries s) e → IsExecutable P e.job e.mode
 feasible-executable P s e f m takes_time k r =
     let whole = usage-total P (entries s) k e.start in
     let active = load-active P k e.start e (omega arith) (omega arith) in
@@ -257,7 +257,7 @@ executable-less : (P : Project) (j o m : ℕ) → TakesNoMore P j o m → IsExec
 executable-less P j o m less can takes_time k r = let d = less.duration in let q = less.requests k r in let fit = can (omega arith) k r in omega arith
 
 -- what a completed front needs, and the least that the other jobs need, keeps the budgets
-completed-budgets : (P : Project) (F : List Entry) (s : List Placing) → DistinctJobs F → Completes P F s → LeavesBudgets P F
+pub completed-budgets : (P : Project) (F : List Entry) (s : List Placing) → DistinctJobs F → Completes P F s → LeavesBudgets P F
 completed-budgets P F s d c l r =
     let taken : Entry → ℕ = λ x. need P x.job x.mode l in
     let all = sum_by-total taken (entries s) in
@@ -265,7 +265,7 @@ completed-budgets P F s d c l r =
     let parts = total-others taken (entries s) F (entries-distinct 1 s) d (kept-In P F s c) in
     let least : total (λ (x : Entry). cond (has_job F x.job) 0 (least_need P x.job l)) (entries s) ≤ total (λ (x : Entry). cond (has_job F x.job) 0 (taken x)) (entries s) =
     total-le _ _ (entries s) (λ x i. cond-mono (has_job F x.job) (least_need-le P x.job x.mode l (In-All (λ (z : Entry). IsMode P z.job z.mode) (entries s) c.feasible.modes x i))) in
-    let rest = rest_need-entries P F s l c.feasible.whole in
+    let rest = sum_by-unplaced P F s (λ j. least_need P j l) c.feasible.whole in
     let ok = c.feasible.budgets l r in
     omega arith
 

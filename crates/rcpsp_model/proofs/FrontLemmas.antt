@@ -18,6 +18,12 @@ use Rattle.rcpsp_model.proofs.Entries.{DistinctJobs, part, part-more, entry_at, 
 use Rattle.rcpsp_model.proofs.Usage.{load, usage-total, load-active, load-before, load-after, finish-le-end, end-le, usage-past_end, cap-calm, cap-le-capacity, calm-le}
 use Rattle.rcpsp_model.proofs.ExchangeLemmas.{front-distinct}
 
+-- A rule that keeps a fact from entry to entry keeps it to the end.
+pub in_turn : {X : Type 0} (R : List X → X → Type 0) (Q : List X → Type 0) → ((F : List X) (e : X) → Q F → R F e → Q (F ++ e ∷ [])) →
+    (F es : List X) → Q F → InTurn R F es → Q (F ++ es)
+in_turn R Q step F [] q t = subst Q (sym (append-nil F)) q
+in_turn R Q step F (e ∷ es) q t = subst Q (append_assoc F (e ∷ []) es) (in_turn R Q step (F ++ e ∷ []) es (step F e q t.0) t.1)
+
 pub usage-push : (P : Project) (F : List Entry) (e : Entry) (k t : ℕ) → usage P (F ++ e ∷ []) k t ≡ usage P F k t + load P k t e
 usage-push P F e k t =
     let a = usage-total P (F ++ e ∷ []) k t in let b = usage-total P F k t in

@@ -7,6 +7,7 @@ pub mod ModeLemmas
 pub mod ExchangeLemmas
 pub mod FrontLemmas
 pub mod BoundLemmas
+pub mod WorkLemmas
 pub mod DominanceLemmas
 pub mod PlanLemmas
 pub mod LogLemmas

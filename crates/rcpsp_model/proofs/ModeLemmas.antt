@@ -8,8 +8,8 @@ use Rattle.rcpsp_model.specs.declared.parts.Mode.{Mode}
 use Rattle.rcpsp_model.specs.Project.{Project, modes_of, mode_of, no_mode, duration, request, need, job_count, jobs, numbers_from, renewables, IsMode, IsRenewable, IsNonrenewable}
 use Rattle.rcpsp_model.specs.Schedule.{entries, entries_from}
 use Rattle.rcpsp_model.specs.Chain.{least_over}
-use Rattle.rcpsp_model.specs.Modes.{time, renewable, nonrenewable, least_need, TakesNoMore, TakesLess, IsInefficientBy, IsEfficient}
-use Rattle.rcpsp_model.specs.Tree.{has_job, rest_need}
+use Rattle.rcpsp_model.specs.Modes.{time, renewable, nonrenewable, least_need, TakesNoMore, TakesLess, IsInefficientBy, IsEfficient, least_work}
+use Rattle.rcpsp_model.specs.Tree.{has_job, unplaced}
 use Rattle.rcpsp_model.proofs.Lists.{In, In-from_Contains, total, total-le, total-same, sum_by-total, sum_by-filter}
 use Rattle.rcpsp_model.proofs.Usage.{both_decided, implies_decided}
 use Rattle.std.proofs.Math.Nat.{mul-le-mul_left}
@@ -33,6 +33,10 @@ pub least_need-le : (P : Project) (j m l : ℕ) → IsMode P j m → least_need 
 unfolding least_need need mode_of
 least_need-le P j m l r = least_over-le (λ (x : Mode). slice_index x.needs (l - 1)) (modes_of P j) _ (mode-In P j m r)
 
+pub least_work-le : (P : Project) (j m k : ℕ) → IsMode P j m → least_work P j k ≤ duration P j m * request P j m k
+unfolding least_work duration request mode_of
+least_work-le P j m k r = least_over-le (λ (x : Mode). x.duration * slice_index x.requests (k - 1)) (modes_of P j) _ (mode-In P j m r)
+
 -- a sum over the jobs is one over the entries of a schedule
 total-jobs : (g : ℕ → ℕ) (i : ℕ) (ps : List Placing) → total g (numbers_from i (length ps)) ≡ total (λ (x : Entry). g x.job) (entries_from i ps)
 total-jobs g i [] = refl
@@ -42,14 +46,15 @@ cond-not : (b : Bool) (x : ℕ) → cond (not b) x 0 ≡ cond b 0 x
 cond-not true x = refl
 cond-not false x = refl
 
-pub rest_need-entries : (P : Project) (F : List Entry) (s : List Placing) (l : ℕ) → length s ≡ job_count P →
-    rest_need P F l ≡ total (λ (x : Entry). cond (has_job F x.job) 0 (least_need P x.job l)) (entries s)
-rest_need-entries P F s l w =
-    let g : ℕ → ℕ = λ j. cond (not (has_job F j)) (least_need P j l) 0 in
-    let a = sum_by-filter (λ j. least_need P j l) (λ j. not (has_job F j)) (jobs P) in
-    let b : total g (jobs P) ≡ total g (numbers_from 1 (length s)) = ap (λ n. total g (numbers_from 1 n)) (sym w) in
-    let c = total-jobs g 1 s in
-    let d = total-same (λ (x : Entry). g x.job) (λ (x : Entry). cond (has_job F x.job) 0 (least_need P x.job l)) (entries s) (λ x i. cond-not (has_job F x.job) _) in
+-- a sum over the jobs that a front lacks is one over the entries of a schedule
+pub sum_by-unplaced : (P : Project) (F : List Entry) (s : List Placing) (g : ℕ → ℕ) → length s ≡ job_count P →
+    sum_by g (unplaced P F) ≡ total (λ (x : Entry). cond (has_job F x.job) 0 (g x.job)) (entries s)
+sum_by-unplaced P F s g w =
+    let h : ℕ → ℕ = λ j. cond (not (has_job F j)) (g j) 0 in
+    let a = sum_by-filter g (λ j. not (has_job F j)) (jobs P) in
+    let b : total h (jobs P) ≡ total h (numbers_from 1 (length s)) = ap (λ n. total h (numbers_from 1 n)) (sym w) in
+    let c = total-jobs h 1 s in
+    let d = total-same (λ (x : Entry). h x.job) (λ (x : Entry). cond (has_job F x.job) 0 (g x.job)) (entries s) (λ x i. cond-not (has_job F x.job) _) in
     omega arith
 
 total-lt : (f g : ℕ → ℕ) (xs : List ℕ) (x : ℕ) → ((y : ℕ) → In xs y → f y ≤ g y) → In xs x → f x < g x → total f xs < total g xs

@@ -13,7 +13,7 @@ use Rattle.rcpsp_model.specs.Laws.{PlanLaw, FirstPlanLaw}
 use Rattle.rcpsp_model.proofs.Lists.{In, In-push, In-from_Contains, Contains-from_In, All-from_In, In-All, total, total-zero, sum_by-total}
 use Rattle.rcpsp_model.proofs.Entries.{DistinctJobs, distinct-push, has_job-In, entry_of, same_entry, total-others, entries-distinct, job-from, job-below}
 use Rattle.rcpsp_model.proofs.Usage.{load, usage-total, finish-le-end, end-le}
-use Rattle.rcpsp_model.proofs.FrontLemmas.{keeps-push}
+use Rattle.rcpsp_model.proofs.FrontLemmas.{keeps-push, in_turn}
 use Rattle.rcpsp_model.proofs.DominanceLemmas.{IsSound, sound-push}
 
 -- What holds of all entries placed so far.
@@ -22,12 +22,6 @@ pub record IsPlan (P : Project) (F : List Entry) : Type 0 where
   pub keeps : KeepsCapacities P F
   pub sound : IsSound P F
   pub modes : (e : Entry) → In F e → IsMode P e.job e.mode
-
--- A rule that keeps a fact from entry to entry keeps it to the end.
-pub in_turn : {X : Type 0} (R : List X → X → Type 0) (Q : List X → Type 0) → ((F : List X) (e : X) → Q F → R F e → Q (F ++ e ∷ [])) →
-    (F es : List X) → Q F → InTurn R F es → Q (F ++ es)
-in_turn R Q step F [] q t = subst Q (sym (append-nil F)) q
-in_turn R Q step F (e ∷ es) q t = subst Q (append_assoc F (e ∷ []) es) (in_turn R Q step (F ++ e ∷ []) es (step F e q t.0) t.1)
 
 plan-push : (P : Project) → IsAcyclic P → (F : List Entry) (e : Entry) → IsPlan P F → IsPlacedInTurn P F e → IsPlan P (F ++ e ∷ [])
 plan-push P a F e p f = record {
