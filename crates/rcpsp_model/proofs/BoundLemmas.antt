@@ -9,13 +9,14 @@ use Rattle.rcpsp_model.specs.Project.{Project, modes_of, mode_of, no_mode, durat
 use Rattle.rcpsp_model.specs.Schedule.{finish, end_of, entries, IsFeasible}
 use Rattle.rcpsp_model.specs.Chain.{least_duration, IsChain}
 use Rattle.rcpsp_model.specs.Tree.{has_job, last_start, Completes}
-use Rattle.rcpsp_model.specs.Bounds.{ready, TailValue, front, chain, IsTailBound}
-use Rattle.rcpsp_model.specs.Laws.{TailLaw}
+use Rattle.rcpsp_model.specs.Bounds.{LowerValue, tail, work, ready, TailValue, front, chain, IsTailBound}
+use Rattle.rcpsp_model.specs.Laws.{TailLaw, JobTailLaw, GapLaw, LowerLaw}
 use Rattle.rcpsp_model.proofs.Lists.{In, In-filter, In-from_Contains, In-All, total, sum_by-total}
 use Rattle.rcpsp_model.proofs.Entries.{entry_at}
 use Rattle.rcpsp_model.proofs.ModeLemmas.{least_over-le}
 use Rattle.rcpsp_model.proofs.Usage.{finish-le-end, end-le}
-use Rattle.rcpsp_model.proofs.ExchangeLemmas.{kept-In, precedes}
+use Rattle.rcpsp_model.proofs.ExchangeLemmas.{kept-In, precedes, completed-budgets, front-distinct}
+use Rattle.rcpsp_model.proofs.WorkLemmas.{work_law}
 
 pub least_duration-le : (P : Project) (j m : ℕ) → IsMode P j m → least_duration P j ≤ duration P j m
 unfolding least_duration duration mode_of
@@ -63,3 +64,23 @@ tail-value P F s t a c (chain j js job is_chain unplaced) =
 
 pub tail_law : TailLaw
 tail_law P F s t a c b = tail-value P F s t a c b.attained
+
+pub job_tail_law : JobTailLaw
+job_tail_law P s j t a f job is =
+    let at = entry_at 1 s j job.0 (let w = f.whole in omega (arith, job.1)) in
+    let chain = is.attained in
+    let along = chain-end P s a f at.0 chain.0 at.1 (subst (λ (n : ℕ). IsChain P (n ∷ chain.0)) (sym at.2) chain.1) in
+    let sum = sum_by-total (least_duration P) (j ∷ chain.0) in
+    let same = ap (least_duration P) at.2 in
+    let whole = chain.2 in
+    omega arith
+
+pub gap_law : GapLaw
+gap_law P F s l f gap c = let keeps = completed-budgets P F s (front-distinct P F f) c l gap.nonrenewable in let exceeds = gap.exceeds in omega arith
+
+pub lower_law : LowerLaw
+lower_law P F s b a f c is = by_value b is.attained
+  where
+    by_value : (v : ℕ) → LowerValue P F v → v ≤ end_of P (entries s)
+    by_value _ (tail v bound) = tail_law P F s v a c bound
+    by_value _ (work k v bound) = work_law P F s k v f c bound

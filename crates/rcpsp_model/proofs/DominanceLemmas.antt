@@ -53,7 +53,7 @@ sound-in_turn : (P : Project) (a : IsAcyclic P) (F es : List Entry) → InTurn (
 sound-in_turn P a F [] f s = subst (IsSound P) (sym (append-nil F)) s
 sound-in_turn P a F (e ∷ es) f s = subst (IsSound P) (append_assoc F (e ∷ []) es) (sound-in_turn P a (F ++ e ∷ []) es f.1 (sound-push P a F e s f.0.eligible f.0.start.attained.after_preds))
 
-front-sound : (P : Project) (a : IsAcyclic P) (F : List Entry) → IsFront P F → IsSound P F
+pub front-sound : (P : Project) (a : IsAcyclic P) (F : List Entry) → IsFront P F → IsSound P F
 front-sound P a F f = sound-in_turn P a [] F f (record { closed = λ i j b h. cc; done = λ x y i j b. absurd i })
 
 -- the schedule with the placings of A for its jobs
@@ -61,7 +61,7 @@ abbrev placing_in : List Entry → ℕ → Placing → Placing
 placing_in [] i p = p
 placing_in (e ∷ A) i p = cond (eqb e.job i) (record { mode = e.mode; start = e.start }) (placing_in A i p)
 
-abbrev merged : List Entry → ℕ → List Placing → List Placing
+abbrev pub merged : List Entry → ℕ → List Placing → List Placing
 merged A i [] = []
 merged A i (p ∷ ps) = placing_in A i p ∷ merged A (i + 1) ps
 
@@ -83,7 +83,7 @@ placing-other (e ∷ A) i p h =
     let r = or_parts (eqb e.job i) (has_job A i) h in
     ap (λ (b : Bool). cond b (record { mode = e.mode; start = e.start }) (placing_in A i p)) r.0 ∙ placing-other A i p r.1
 
-length-merged : (A : List Entry) (i : ℕ) (ps : List Placing) → length (merged A i ps) ≡ length ps
+pub length-merged : (A : List Entry) (i : ℕ) (ps : List Placing) → length (merged A i ps) ≡ length ps
 length-merged A i [] = refl
 length-merged A i (p ∷ ps) = ap suc (length-merged A (i + 1) ps)
 
@@ -96,7 +96,7 @@ In-merged A i (p ∷ ps) x (inl e) =
     ]
 In-merged A i (p ∷ ps) x (inr m) = elim (In-merged A (i + 1) ps x m) [ inl a ↦ inl a | inr r ↦ inr (r.0, inr r.1) ]
 
-merged-In : (A : List Entry) → DistinctJobs A → (i : ℕ) (ps : List Placing) (e : Entry) → In A e → i ≤ e.job → e.job < i + length ps → In (entries_from i (merged A i ps)) e
+pub merged-In : (A : List Entry) → DistinctJobs A → (i : ℕ) (ps : List Placing) (e : Entry) → In A e → i ≤ e.job → e.job < i + length ps → In (entries_from i (merged A i ps)) e
 merged-In A d i ps e m low high =
     let at = entry_at i (merged A i ps) e.job low (let n = length-merged A i ps in omega arith) in
     elim (In-merged A i ps at.0 at.1) [

@@ -148,10 +148,13 @@ named-in_turn P F (x ∷ es) f e (inr i) = named-in_turn P (F ++ x ∷ []) es f.
 pub length-front : (P : Project) (F : List Entry) → IsFront P F → length F ≤ job_count P
 length-front P F f = length-distinct (job_count P) F (front-distinct P F f) (λ e i. (named-in_turn P [] F f e i).0)
 
+pub front-end_le : (P : Project) (F : List Entry) → IsWithinLimits P → IsFront P F → end_of P F ≤ calm P + 10000 * length F
+front-end_le P F w f = end-in_turn P w [] F f (omega arith)
+
 pub front-end : (P : Project) (F : List Entry) → IsWithinLimits P → IsFront P F → end_of P F ≤ 1290000
 unfolding job_count
 front-end P F w f =
-    let h = end-in_turn P w [] F f (omega arith) in let len = length-front P F f in let few = w.few_jobs in let soon = calm-le P in omega arith
+    let h = front-end_le P F w f in let len = length-front P F f in let few = w.few_jobs in let soon = calm-le P in omega arith
 
 pub front-of : (P : Project) (F : List Entry) → IsWithinLimits P → IsFront P F → AreOf P F
 front-of P F w f = All-from_In (IsOf P) F (λ e i.

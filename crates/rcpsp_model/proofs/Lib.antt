@@ -10,4 +10,5 @@ pub mod BoundLemmas
 pub mod WorkLemmas
 pub mod DominanceLemmas
 pub mod PlanLemmas
+pub mod TreeLemmas
 pub mod LogLemmas

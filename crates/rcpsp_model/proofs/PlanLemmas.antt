@@ -5,14 +5,16 @@ use Rattle.std.proofs.lemmas.List.{append-nil}
 use Rattle.rcpsp_model.specs.declared.parts.Entry.{Entry}
 use Rattle.rcpsp_model.specs.declared.parts.Placing.{Placing}
 use Rattle.rcpsp_model.specs.Project.{Project, need, job_count, budget, Before, IsJob, IsMode, IsRenewable, IsNonrenewable, IsAcyclic}
-use Rattle.rcpsp_model.specs.Schedule.{cap, finish, usage, used, end_of, entries, IsFeasible, KeepsCapacities}
+use Rattle.rcpsp_model.specs.Schedule.{cap, finish, usage, used, end_of, entries, IsFeasible, KeepsCapacities, KeepsBudgets}
 use Rattle.rcpsp_model.specs.Chain.{IsLeast}
+use Rattle.rcpsp_model.specs.Modes.{IsExecutable}
 use Rattle.rcpsp_model.specs.Tree.{has_job, Fits, IsEligible, IsLeaf, InTurn}
 use Rattle.rcpsp_model.specs.Plan.{ModeRule, IsShortestMode, IsCheapestMode, IsPlacedInTurn, IsScheduledNext, IsPlanBy}
-use Rattle.rcpsp_model.specs.Laws.{PlanLaw, FirstPlanLaw}
+use Rattle.rcpsp_model.specs.Laws.{PlanLaw, FirstPlanLaw, NoModeLaw}
 use Rattle.rcpsp_model.proofs.Lists.{In, In-push, In-from_Contains, Contains-from_In, All-from_In, In-All, total, total-zero, sum_by-total}
-use Rattle.rcpsp_model.proofs.Entries.{DistinctJobs, distinct-push, has_job-In, entry_of, same_entry, total-others, entries-distinct, job-from, job-below}
+use Rattle.rcpsp_model.proofs.Entries.{DistinctJobs, distinct-push, has_job-In, entry_of, same_entry, total-others, entries-distinct, entry_at, job-from, job-below}
 use Rattle.rcpsp_model.proofs.Usage.{load, usage-total, finish-le-end, end-le}
+use Rattle.rcpsp_model.proofs.ExchangeLemmas.{feasible-executable}
 use Rattle.rcpsp_model.proofs.FrontLemmas.{keeps-push, in_turn}
 use Rattle.rcpsp_model.proofs.DominanceLemmas.{IsSound, sound-push}
 
@@ -31,9 +33,16 @@ plan-push P a F e p f = record {
   modes = λ x i. elim (In-push F e x i) [ inl j ↦ p.modes x j | inr q ↦ subst (λ (z : Entry). IsMode P z.job z.mode) q f.mode ];
 }
 
+-- Where all jobs are placed, the schedule with these entries has no others.
+pub plan-entries : (P : Project) (L : List Entry) (s : List Placing) → IsLeaf P L → length s ≡ job_count P → ((e : Entry) → In L e → In (entries s) e) → (e : Entry) → In (entries s) e → In L e
+plan-entries P L s leaf w sub e i =
+    let placed = leaf e.job (let low = job-from 1 s e i in let high = job-below 1 s e i in (omega arith, omega arith)) in
+    let at = entry_of L e.job placed in
+    subst (λ (z : Entry). In L z) (same_entry (entries s) (entries-distinct 1 s) at.0 e (sub at.0 at.1) i at.2) at.1
+
 -- the entries of a plan of all jobs are those of a schedule that is feasible
 pub plan-feasible : (P : Project) (L : List Entry) (s : List Placing) → IsPlan P L → IsLeaf P L → length s ≡ job_count P → ((e : Entry) → In L e → In (entries s) e) →
-    ((l : ℕ) → IsNonrenewable P l → used P L l ≤ budget P l) → IsFeasible P s
+    KeepsBudgets P L → IsFeasible P s
 plan-feasible P L s p leaf w sub budgets = record {
   whole = w;
   modes = All-from_In (λ (x : Entry). IsMode P x.job x.mode) (entries s) (λ x i. p.modes x (back x i));
@@ -45,18 +54,13 @@ plan-feasible P L s p leaf w sub budgets = record {
       let a1 = sum_by-total taken (entries s) in let a2 = sum_by-total taken L in let a3 = same taken in let a4 = budgets l r in omega arith;
 }
   where
-    placed : (x : Entry) → In (entries s) x → has_job L x.job ≡ true
-    placed x i = leaf x.job (let low = job-from 1 s x i in let high = job-below 1 s x i in (omega arith, omega arith))
-
     back : (x : Entry) → In (entries s) x → In L x
-    back x i =
-        let at = entry_of L x.job (placed x i) in
-        subst (λ (z : Entry). In L z) (same_entry (entries s) (entries-distinct 1 s) at.0 x (sub at.0 at.1) i at.2) at.1
+    back = plan-entries P L s leaf w sub
 
     same : (h : Entry → ℕ) → total h (entries s) ≡ total h L
     same h =
         let all = total-others h (entries s) L (entries-distinct 1 s) p.distinct sub in
-        let none = total-zero (λ (x : Entry). cond (has_job L x.job) 0 (h x)) (entries s) (λ x i. ap (λ (b : Bool). cond b 0 (h x)) (placed x i)) in
+        let none = total-zero (λ (x : Entry). cond (has_job L x.job) 0 (h x)) (entries s) (λ x i. ap (λ (b : Bool). cond b 0 (h x)) (has_job-In L x (back x i))) in
         omega arith
 
 plan-in_turn : (P : Project) → IsAcyclic P → (R : List Entry → Entry → Type 0) → ((F : List Entry) (e : Entry) → R F e → IsPlacedInTurn P F e) → (L : List Entry) → InTurn R [] L → IsPlan P L
@@ -77,3 +81,9 @@ plan_by-feasible P Rule s a p =
 pub first_plan_law : FirstPlanLaw
 first_plan_law P s a (inl f) = plan_by-feasible P IsShortestMode s a f.0
 first_plan_law P s a (inr f) = plan_by-feasible P IsCheapestMode s a f.0
+
+pub no_mode_law : NoModeLaw
+no_mode_law P j job none s f =
+    let at = entry_at 1 s j job.0 (let w = f.whole in omega (arith, job.1)) in
+    let mode = In-All (λ (z : Entry). IsMode P z.job z.mode) (entries s) f.modes at.0 at.1 in
+    none at.0.mode (subst (λ (i : ℕ). IsMode P i at.0.mode) at.2 mode) (subst (λ (i : ℕ). IsExecutable P i at.0.mode) at.2 (feasible-executable P s at.0 f at.1))
