@@ -1,15 +1,14 @@
-use Rattle.std.proofs.Common.{◌≡◌, ℕ, zero, suc, ◌+◌, ◌-◌, ◌<◌, ◌≤◌, max, min, ◌⊎◌, inl, inr, arith, refl, sym, ap, subst, ◌∙◌, List, [], ◌∷◌, length, get_or, Bool, true, false, cond}
-use Rattle.std.specs.Prelude.{All, Contains, sum_by, filter}
-use Rattle.std.proofs.lemmas.Bool.{cases_Bool, both_ways}
-use Rattle.std.proofs.lemmas.List.Elements.{All-head, All-tail, Contains-get_or}
+use Rattle.std.proofs.Common.{◌≡◌, ℕ, ◌+◌, ◌-◌, ◌≤◌, arith, sym, ap, subst, List, [], ◌∷◌, get_or, false}
+use Rattle.std.specs.Prelude.{filter}
+use Rattle.std.proofs.lemmas.List.Elements.{All-head, Contains-get_or}
 use Rattle.rcpsp_model.specs.declared.parts.Entry.{Entry}
 use Rattle.rcpsp_model.specs.declared.parts.Placing.{Placing}
 use Rattle.rcpsp_model.specs.declared.parts.Mode.{Mode}
-use Rattle.rcpsp_model.specs.Project.{Project, modes_of, mode_of, no_mode, duration, job_count, Before, is_before, IsAcyclic, IsJob, IsMode}
+use Rattle.rcpsp_model.specs.Project.{Project, modes_of, mode_of, no_mode, duration, Before, is_before, IsAcyclic, IsMode}
 use Rattle.rcpsp_model.specs.Schedule.{finish, end_of, entries, IsFeasible}
 use Rattle.rcpsp_model.specs.Chain.{least_duration, IsChain}
 use Rattle.rcpsp_model.specs.Tree.{has_job, last_start, Completes}
-use Rattle.rcpsp_model.specs.Bounds.{LowerValue, tail, work, ready, TailValue, front, chain, IsTailBound}
+use Rattle.rcpsp_model.specs.Bounds.{LowerValue, tail, work, ready, TailValue, front, chain}
 use Rattle.rcpsp_model.specs.Laws.{TailLaw, JobTailLaw, GapLaw, LowerLaw}
 use Rattle.rcpsp_model.proofs.Lists.{In, In-filter, In-from_Contains, In-All, total, sum_by-total}
 use Rattle.rcpsp_model.proofs.Entries.{entry_at}

@@ -1,16 +1,16 @@
-use Rattle.std.proofs.Common.{◌≡◌, ℕ, zero, suc, ◌+◌, ◌<◌, ◌≤◌, max, ◌⊎◌, inl, inr, arith, refl, sym, ap, subst, ◌∙◌, List, [], ◌∷◌, ◌++◌, length, append_assoc, Bool, true, false, cond, eqb, ◌||◌}
+use Rattle.std.proofs.Common.{◌≡◌, ℕ, suc, ◌+◌, ◌<◌, ◌≤◌, ◌⊎◌, inl, inr, arith, refl, sym, ap, subst, ◌∙◌, List, [], ◌∷◌, ◌++◌, length, append_assoc, Bool, true, false, cond, eqb, ◌||◌}
 use Rattle.std.specs.Prelude.{All, Contains}
-use Rattle.std.proofs.lemmas.Bool.{cases_lt, cases_Bool, both_ways, or_cases, or_parts, eqb-true, eqb-false, eq-eqb, ne_eqb}
+use Rattle.std.proofs.lemmas.Bool.{cases_lt, cases_Bool, both_ways, or_parts, eqb-true}
 use Rattle.std.proofs.lemmas.List.{append-nil}
 use Rattle.rcpsp_model.specs.declared.parts.Entry.{Entry}
 use Rattle.rcpsp_model.specs.declared.parts.Placing.{Placing}
-use Rattle.rcpsp_model.specs.Project.{Project, need, job_count, Before, IsJob, IsMode, IsRenewable, IsNonrenewable, IsAcyclic}
-use Rattle.rcpsp_model.specs.Schedule.{cap, finish, usage, used, end_of, entries, entries_from, IsFeasible}
+use Rattle.rcpsp_model.specs.Project.{Project, need, Before, IsMode, IsRenewable, IsAcyclic}
+use Rattle.rcpsp_model.specs.Schedule.{cap, finish, usage, end_of, entries, entries_from}
 use Rattle.rcpsp_model.specs.Tree.{has_job, last_start, IsEligible, Follows, IsFront, InTurn, Completes}
 use Rattle.rcpsp_model.specs.Dominance.{Dominates}
 use Rattle.rcpsp_model.specs.Laws.{Replaces, DominanceLaw}
 use Rattle.rcpsp_model.proofs.Lists.{In, In-push, In-from_Contains, Contains-from_In, All-from_In, In-All, total, total-same, total-zero, sum_by-total}
-use Rattle.rcpsp_model.proofs.Entries.{DistinctJobs, has_job-In, entry_of, same_entry, total-others, entries-distinct, entry_at, has_job-push_false, has_job-push_none, job-from, job-below}
+use Rattle.rcpsp_model.proofs.Entries.{DistinctJobs, has_job-In, entry_of, same_entry, total-others, entries-distinct, entry_at, has_job-push_false, has_job-push_none}
 use Rattle.rcpsp_model.proofs.Usage.{load, usage-total, load-before, finish-le-end, end-le}
 use Rattle.rcpsp_model.proofs.ExchangeLemmas.{kept-In, precedes, front-distinct}
 use Rattle.rcpsp_model.proofs.FrontLemmas.{front-keeps, named-in_turn}

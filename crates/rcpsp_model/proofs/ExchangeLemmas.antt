@@ -1,22 +1,21 @@
-use Rattle.std.proofs.Common.{◌≡◌, ℕ, zero, suc, ◌+◌, ◌<◌, ◌≤◌, ◌⊎◌, inl, inr, arith, refl, sym, ap, subst, ◌∙◌, List, [], ◌∷◌, ◌++◌, append_assoc, length, Bool, true, false, cond, eqb}
-use Rattle.std.specs.Prelude.{All, Contains}
-use Rattle.std.proofs.lemmas.Bool.{cases_lt, cases_eq, cases_Bool, both_ways, or_cases, or_parts, or_left, or_right, eqb-true, eq-eqb}
+use Rattle.std.proofs.Common.{◌≡◌, ℕ, ◌+◌, ◌<◌, ◌≤◌, ◌⊎◌, inl, inr, arith, refl, sym, ap, subst, ◌∙◌, List, [], ◌∷◌, ◌++◌, append_assoc, Bool, true, false, cond, eqb}
+use Rattle.std.specs.Prelude.{Contains}
+use Rattle.std.proofs.lemmas.Bool.{cases_lt, cases_Bool, both_ways}
 use Rattle.std.proofs.lemmas.List.Sums.{fold_push}
 use Rattle.std.proofs.lemmas.List.{append-nil}
 use Rattle.rcpsp_model.specs.declared.parts.Entry.{Entry}
 use Rattle.rcpsp_model.specs.declared.parts.Placing.{Placing}
-use Rattle.rcpsp_model.specs.Project.{Project, duration, request, need, capacity, job_count, Before, IsJob, IsMode, IsRenewable, IsNonrenewable, IsAcyclic, budget}
-use Rattle.rcpsp_model.specs.Schedule.{cap, finish, usage, used, end_of, entries, entries_from, IsFeasible}
-use Rattle.rcpsp_model.specs.Chain.{IsLeast}
+use Rattle.rcpsp_model.specs.Project.{Project, duration, need, Before, IsJob, IsMode, IsRenewable, IsAcyclic}
+use Rattle.rcpsp_model.specs.Schedule.{cap, finish, usage, end_of, entries, IsFeasible}
 use Rattle.rcpsp_model.specs.Modes.{least_need, TakesNoMore, IsExecutable}
-use Rattle.rcpsp_model.specs.Tree.{has_job, last_start, Fits, CanStart, IsEligible, Follows, IsFront, InTurn, IsLeaf, Completes, IsPlacedChild, LeavesBudgets}
+use Rattle.rcpsp_model.specs.Tree.{has_job, last_start, CanStart, IsEligible, Follows, IsFront, InTurn, Completes, LeavesBudgets}
 use Rattle.rcpsp_model.specs.Laws.{Exchange, ExchangeLaw}
 use Rattle.rcpsp_model.proofs.Lists.{total-le, In, In-push, In-from_Contains, Contains-from_In, All-from_In, In-All, total, sum_by-total, total-zero, In-le-total, IsFirst, first_failing, NoLater}
 use Rattle.rcpsp_model.proofs.Numbers.{least_of}
 use Rattle.rcpsp_model.proofs.Entries.{DistinctJobs, has_job-In, entry_of, same_entry, total-others, entries-distinct, entry_at, job-from, job-below, distinct-push, has_job-push_false}
 use Rattle.rcpsp_model.proofs.ModeLemmas.{least_need-le, sum_by-unplaced, efficient_mode, cond-mono}
-use Rattle.rcpsp_model.proofs.Changed.{changed, entry, length-changed, In-changed, In-changed_other, In-changed_new, total-changed}
-use Rattle.rcpsp_model.proofs.Usage.{load, usage-total, load-active, load-before, load-after, finish-le-end, end-le, cap-le-capacity, can_start_decided}
+use Rattle.rcpsp_model.proofs.Changed.{changed, length-changed, In-changed, In-changed_other, In-changed_new, total-changed}
+use Rattle.rcpsp_model.proofs.Usage.{load, usage-total, load-active, load-before, load-after, finish-le-end, end-le, cap_law, can_start_decided}
 
 -- The entries of a front have distinct jobs.
 distinct-in_turn : (P : Project) (F es : List Entry) → InTurn (Follows P) F es → DistinctJobs F → DistinctJobs (F ++ es)
@@ -242,7 +241,7 @@ feasible-executable P s e f m takes_time k r =
     let one = In-le-total (load P k e.start) (entries s) e m in
     let end = finish-le-end P (entries s) e m in
     let within = f.capacity k e.start r (omega arith) in
-    let le = cap-le-capacity P k e.start in
+    let le = cap_law P k e.start in
     omega arith
 
 -- what takes no more can start where the mode itself can

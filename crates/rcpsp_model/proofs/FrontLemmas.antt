@@ -1,21 +1,21 @@
-use Rattle.std.proofs.Common.{◌≡◌, ℕ, zero, suc, ◌+◌, ◌*◌, ◌-◌, ◌<◌, ◌≤◌, max, ◌⊎◌, inl, inr, arith, refl, sym, ap, subst, ◌∙◌, List, [], ◌∷◌, ◌++◌, length, length-append, get_or, append_assoc, Bool, true, false, cond, eqb, ◌||◌, replicate}
-use Rattle.std.specs.Prelude.{All, sum_by, fold, filter}
+use Rattle.std.proofs.Common.{◌≡◌, ℕ, ◌+◌, ◌*◌, ◌-◌, ◌≤◌, max, inl, inr, arith, refl, sym, ap, subst, List, [], ◌∷◌, ◌++◌, length, length-append, get_or, append_assoc, Bool, true, false, cond, eqb, ◌||◌, replicate}
+use Rattle.std.specs.Prelude.{fold, filter}
 use Rattle.std.proofs.lemmas.Bool.{cases_lt}
 use Rattle.std.proofs.lemmas.List.{append-nil, length-replicate}
-use Rattle.std.proofs.lemmas.List.Sums.{sum_by_push, fold_push}
-use Rattle.std.proofs.lemmas.List.Elements.{All-push, All-nil, All-get_or}
+use Rattle.std.proofs.lemmas.List.Sums.{sum_by_push}
+use Rattle.std.proofs.lemmas.List.Elements.{All-get_or}
 use Rattle.rcpsp_model.specs.declared.parts.Entry.{Entry}
 use Rattle.rcpsp_model.specs.declared.parts.Placing.{Placing}
 use Rattle.rcpsp_model.specs.declared.parts.Mode.{Mode}
-use Rattle.rcpsp_model.specs.Project.{Project, duration, is_before, request, capacity, job_count, Before, IsJob, IsMode, IsRenewable, Activity, IsWithinLimits, IsActivityWithinLimits, IsModeWithinLimits, mode_of, modes_of, no_mode, no_activity}
-use Rattle.rcpsp_model.specs.Schedule.{cap, calm, finish, usage, end_of, entries_from, KeepsCapacities, IsOf, AreOf}
+use Rattle.rcpsp_model.specs.Project.{Project, duration, is_before, job_count, Before, IsJob, IsMode, Activity, IsWithinLimits, IsActivityWithinLimits, IsModeWithinLimits, mode_of, modes_of, no_mode, no_activity}
+use Rattle.rcpsp_model.specs.Schedule.{calm, finish, usage, end_of, entries_from, KeepsCapacities, IsOf, AreOf}
 use Rattle.rcpsp_model.specs.Chain.{IsLeast}
 use Rattle.rcpsp_model.specs.Modes.{IsExecutable}
 use Rattle.rcpsp_model.specs.Tree.{has_job, last_start, Fits, CanStart, Follows, IsFront, InTurn}
 use Rattle.rcpsp_model.specs.Bounds.{ready}
 use Rattle.rcpsp_model.proofs.Lists.{In, total, sum_by-total, In-All, All-from_In, total-le, total-zero, In-filter, filter-In}
 use Rattle.rcpsp_model.proofs.Entries.{DistinctJobs, part, part-more, entry_at, entries-distinct}
-use Rattle.rcpsp_model.proofs.Usage.{load, usage-total, load-active, load-before, load-after, finish-le-end, end-le, usage-past_end, cap-calm, cap-le-capacity, calm-le}
+use Rattle.rcpsp_model.proofs.Usage.{load, usage-total, load-active, load-before, load-after, finish-le-end, end-le, usage-past_end, whole_law, cap_law, calm_law}
 use Rattle.rcpsp_model.proofs.ExchangeLemmas.{front-distinct}
 
 -- A rule that keeps a fact from entry to entry keeps it to the end.
@@ -58,13 +58,13 @@ end-push P (x ∷ es) e = let ih = end-push P es e in omega arith
 -- a mode that fits somewhere asks for no more than the capacities
 pub fits-executable : (P : Project) (es : List Entry) (j m t : ℕ) → Fits P es j m t → IsExecutable P j m
 fits-executable P es j m t fits takes_time k r =
-    let fit = fits k t r (omega arith) (omega arith) in let le = cap-le-capacity P k t in omega arith
+    let fit = fits k t r (omega arith) (omega arith) in let le = cap_law P k t in omega arith
 
 -- past the end and the calm an executable mode fits
 pub fits-past_end : (P : Project) (es : List Entry) (j m t : ℕ) → IsExecutable P j m → end_of P es ≤ t → calm P ≤ t → Fits P es j m t
 fits-past_end P es j m t can past calm_ k u r low high =
     let none = usage-past_end P es k u (omega arith) in
-    let whole = cap-calm P k u (omega arith) in
+    let whole = whole_law P k u (omega arith) in
     let enough = can (omega arith) k r in
     omega arith
 
@@ -154,7 +154,7 @@ front-end_le P F w f = end-in_turn P w [] F f (omega arith)
 pub front-end : (P : Project) (F : List Entry) → IsWithinLimits P → IsFront P F → end_of P F ≤ 1290000
 unfolding job_count
 front-end P F w f =
-    let h = front-end_le P F w f in let len = length-front P F f in let few = w.few_jobs in let soon = calm-le P in omega arith
+    let h = front-end_le P F w f in let len = length-front P F f in let few = w.few_jobs in let soon = calm_law P in omega arith
 
 pub front-of : (P : Project) (F : List Entry) → IsWithinLimits P → IsFront P F → AreOf P F
 front-of P F w f = All-from_In (IsOf P) F (λ e i.

@@ -1,12 +1,10 @@
 -- A closed log loses nothing: by induction from the longest fronts down.
-use Rattle.std.proofs.Common.{◌≡◌, ℕ, zero, suc, ◌+◌, ◌<◌, ◌≤◌, ◌⊎◌, inl, inr, arith, refl, ap, List, [], ◌∷◌, ◌++◌, length, length-append, Bool, cond}
+use Rattle.std.proofs.Common.{◌≡◌, ℕ, zero, suc, ◌+◌, ◌<◌, ◌⊎◌, inl, inr, arith, refl, ap, List, [], ◌∷◌, ◌++◌, length, length-append, Bool, cond}
 use Rattle.std.specs.Prelude.{Contains}
 use Rattle.rcpsp_model.specs.declared.parts.Entry.{Entry}
-use Rattle.rcpsp_model.specs.declared.parts.Placing.{Placing}
 use Rattle.rcpsp_model.specs.Project.{Project, job_count, IsAcyclic}
 use Rattle.rcpsp_model.specs.Schedule.{end_of, entries}
-use Rattle.rcpsp_model.specs.Tree.{has_job, IsFront, Completes}
-use Rattle.rcpsp_model.specs.Dominance.{Dominates}
+use Rattle.rcpsp_model.specs.Tree.{has_job, IsFront}
 use Rattle.rcpsp_model.specs.Log.{IsClosedAt, leaf, tail, work, lower, cutset, IsClosedLog, EndsLate}
 use Rattle.rcpsp_model.specs.Laws.{ClosedLogLaw}
 use Rattle.rcpsp_model.proofs.Lists.{total-same}
@@ -16,7 +14,6 @@ use Rattle.rcpsp_model.proofs.BoundLemmas.{tail_law, lower_law}
 use Rattle.rcpsp_model.proofs.WorkLemmas.{work_law}
 use Rattle.rcpsp_model.proofs.DominanceLemmas.{dominance_law}
 use Rattle.rcpsp_model.proofs.FrontLemmas.{length-front, part-jobs, each, named-in_turn}
-use Rattle.rcpsp_model.specs.Tree.{Follows}
 
 -- Fronts with the same jobs have one length.
 pub same-length : (P : Project) (A B : List Entry) → IsFront P A → IsFront P B → ((j : ℕ) → has_job A j ≡ has_job B j) → length A ≡ length B

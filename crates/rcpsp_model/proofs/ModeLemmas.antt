@@ -1,16 +1,16 @@
-use Rattle.std.proofs.Common.{mul-suc, ◌≡◌, ℕ, zero, suc, ◌+◌, ◌*◌, ◌-◌, ◌<◌, ◌≤◌, min, ◌⊎◌, inl, inr, arith, refl, sym, ap, subst, ◌∙◌, List, [], ◌∷◌, length, get_or, Bool, true, false, cond, not}
-use Rattle.std.specs.Prelude.{sum_by, filter, slice_index}
-use Rattle.std.proofs.lemmas.Bool.{cases_lt, cases_eq, cases_Bool}
+use Rattle.std.proofs.Common.{mul-suc, ◌≡◌, ℕ, zero, suc, ◌+◌, ◌*◌, ◌-◌, ◌<◌, ◌≤◌, ◌⊎◌, inl, inr, arith, refl, sym, ap, List, [], ◌∷◌, length, get_or, Bool, true, false, cond, not}
+use Rattle.std.specs.Prelude.{sum_by, slice_index}
+use Rattle.std.proofs.lemmas.Bool.{cases_eq}
 use Rattle.std.proofs.lemmas.List.Elements.{Contains-get_or}
 use Rattle.rcpsp_model.specs.declared.parts.Entry.{Entry}
 use Rattle.rcpsp_model.specs.declared.parts.Placing.{Placing}
 use Rattle.rcpsp_model.specs.declared.parts.Mode.{Mode}
-use Rattle.rcpsp_model.specs.Project.{Project, modes_of, mode_of, no_mode, duration, request, need, job_count, jobs, numbers_from, renewables, IsMode, IsRenewable, IsNonrenewable}
+use Rattle.rcpsp_model.specs.Project.{Project, modes_of, mode_of, no_mode, duration, request, need, job_count, jobs, numbers_from, IsMode, IsRenewable, IsNonrenewable}
 use Rattle.rcpsp_model.specs.Schedule.{entries, entries_from}
 use Rattle.rcpsp_model.specs.Chain.{least_over}
 use Rattle.rcpsp_model.specs.Modes.{time, renewable, nonrenewable, least_need, TakesNoMore, TakesLess, IsInefficientBy, IsEfficient, least_work}
 use Rattle.rcpsp_model.specs.Tree.{has_job, unplaced}
-use Rattle.rcpsp_model.proofs.Lists.{In, In-from_Contains, total, total-le, total-same, sum_by-total, sum_by-filter}
+use Rattle.rcpsp_model.proofs.Lists.{In, In-from_Contains, total, total-le, total-same, sum_by-filter}
 use Rattle.rcpsp_model.proofs.Usage.{both_decided, implies_decided}
 use Rattle.std.proofs.Math.Nat.{mul-le-mul_left}
 use Rattle.rcpsp_model.proofs.Numbers.{least_below, Decided, le_decided, lt_decided, below_decided}

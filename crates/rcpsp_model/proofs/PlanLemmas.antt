@@ -1,19 +1,16 @@
-use Rattle.std.proofs.Common.{◌≡◌, ℕ, zero, suc, ◌+◌, ◌<◌, ◌≤◌, max, ◌⊎◌, inl, inr, arith, refl, sym, ap, subst, ◌∙◌, List, [], ◌∷◌, ◌++◌, length, append_assoc, Bool, true, false, cond, eqb, ◌||◌}
-use Rattle.std.specs.Prelude.{All, Contains}
-use Rattle.std.proofs.lemmas.Bool.{cases_Bool, both_ways}
-use Rattle.std.proofs.lemmas.List.{append-nil}
+use Rattle.std.proofs.Common.{◌≡◌, ℕ, inl, inr, arith, ap, subst, List, [], ◌∷◌, ◌++◌, length, Bool, cond}
+use Rattle.std.specs.Prelude.{Contains}
 use Rattle.rcpsp_model.specs.declared.parts.Entry.{Entry}
 use Rattle.rcpsp_model.specs.declared.parts.Placing.{Placing}
-use Rattle.rcpsp_model.specs.Project.{Project, need, job_count, budget, Before, IsJob, IsMode, IsRenewable, IsNonrenewable, IsAcyclic}
-use Rattle.rcpsp_model.specs.Schedule.{cap, finish, usage, used, end_of, entries, IsFeasible, KeepsCapacities, KeepsBudgets}
-use Rattle.rcpsp_model.specs.Chain.{IsLeast}
+use Rattle.rcpsp_model.specs.Project.{Project, need, job_count, IsMode, IsAcyclic}
+use Rattle.rcpsp_model.specs.Schedule.{entries, IsFeasible, KeepsCapacities, KeepsBudgets}
 use Rattle.rcpsp_model.specs.Modes.{IsExecutable}
-use Rattle.rcpsp_model.specs.Tree.{has_job, Fits, IsEligible, IsLeaf, InTurn}
+use Rattle.rcpsp_model.specs.Tree.{has_job, IsLeaf, InTurn}
 use Rattle.rcpsp_model.specs.Plan.{ModeRule, IsShortestMode, IsCheapestMode, IsPlacedInTurn, IsScheduledNext, IsPlanBy}
 use Rattle.rcpsp_model.specs.Laws.{PlanLaw, FirstPlanLaw, NoModeLaw}
-use Rattle.rcpsp_model.proofs.Lists.{In, In-push, In-from_Contains, Contains-from_In, All-from_In, In-All, total, total-zero, sum_by-total}
+use Rattle.rcpsp_model.proofs.Lists.{In, In-push, In-from_Contains, All-from_In, In-All, total, total-zero, sum_by-total}
 use Rattle.rcpsp_model.proofs.Entries.{DistinctJobs, distinct-push, has_job-In, entry_of, same_entry, total-others, entries-distinct, entry_at, job-from, job-below}
-use Rattle.rcpsp_model.proofs.Usage.{load, usage-total, finish-le-end, end-le}
+use Rattle.rcpsp_model.proofs.Usage.{load, usage-total}
 use Rattle.rcpsp_model.proofs.ExchangeLemmas.{feasible-executable}
 use Rattle.rcpsp_model.proofs.FrontLemmas.{keeps-push, in_turn}
 use Rattle.rcpsp_model.proofs.DominanceLemmas.{IsSound, sound-push}

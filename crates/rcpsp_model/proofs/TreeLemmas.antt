@@ -1,6 +1,6 @@
 -- The root, the leaves, and the children of a front in their order.
-use Rattle.std.proofs.Common.{◌≡◌, ℕ, zero, suc, ◌+◌, ◌<◌, ◌≤◌, ◌⊎◌, inl, inr, arith, refl, sym, ap, subst, ◌∙◌, List, [], ◌∷◌, ◌++◌, append_assoc, length, Bool, true, false, cond, eqb, ◌||◌, replicate, not}
-use Rattle.std.specs.Prelude.{All, Contains, sum_by}
+use Rattle.std.proofs.Common.{◌≡◌, ℕ, zero, suc, ◌+◌, ◌≤◌, inl, inr, arith, refl, sym, ap, subst, ◌∙◌, List, [], ◌∷◌, ◌++◌, append_assoc, length, Bool, false, cond, eqb, ◌||◌, replicate, not}
+use Rattle.std.specs.Prelude.{Contains}
 use Rattle.std.proofs.lemmas.Bool.{both_ways, cases_eq}
 use Rattle.std.proofs.lemmas.List.{append-nil, length-replicate}
 use Rattle.std.proofs.lemmas.List.Sums.{sum_by_push}
@@ -11,12 +11,12 @@ use Rattle.rcpsp_model.specs.declared.parts.Entry.{Entry}
 use Rattle.rcpsp_model.specs.declared.parts.Placing.{Placing}
 use Rattle.rcpsp_model.specs.declared.parts.Shut.TheVariants.{NoCapacity, NoBudget, Inefficient}
 use Rattle.rcpsp_model.specs.Project.{Project, job_count, jobs, modes_of, need, IsMode, IsAcyclic}
-use Rattle.rcpsp_model.specs.Schedule.{finish, used, end_of, entries, entries_from, KeepsBudgets}
+use Rattle.rcpsp_model.specs.Schedule.{used, end_of, entries, entries_from, KeepsBudgets}
 use Rattle.rcpsp_model.specs.Modes.{least_need}
-use Rattle.rcpsp_model.specs.Tree.{has_job, last_start, IsEligible, Follows, InTurn, IsFront, IsLeaf, Completes, rest_need, unplaced, LeavesBudgets, entry_at, extended, IsPlacedChild, IsChild, ByMode, ByJob, ByJobs, AreChildren}
-use Rattle.rcpsp_model.specs.Laws.{FrontLaw, RootLaw, OwnSchedule, LeafLaw, ListsChildren, ChildrenLaw}
-use Rattle.rcpsp_model.proofs.Lists.{In, In-push, In-append, In-from_Contains, Contains-from_In, All-from_In, total, total-same, sum_by-filter}
-use Rattle.rcpsp_model.proofs.Entries.{has_job-In, job-from, job-below}
+use Rattle.rcpsp_model.specs.Tree.{has_job, last_start, IsEligible, Follows, InTurn, IsFront, rest_need, entry_at, IsPlacedChild, IsChild, ByMode, ByJob, ByJobs}
+use Rattle.rcpsp_model.specs.Laws.{FrontLaw, RootLaw, LeafLaw, ChildrenLaw}
+use Rattle.rcpsp_model.proofs.Lists.{In, In-push, In-append, In-from_Contains, Contains-from_In, All-from_In, total-same, sum_by-filter}
+use Rattle.rcpsp_model.proofs.Entries.{has_job-In, job-from}
 use Rattle.rcpsp_model.proofs.Changed.{entry}
 use Rattle.rcpsp_model.proofs.Usage.{finish-le-end, end-le}
 use Rattle.rcpsp_model.proofs.ExchangeLemmas.{front-distinct, kept-In}

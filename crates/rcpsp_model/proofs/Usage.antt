@@ -1,10 +1,10 @@
-use Rattle.std.proofs.Common.{◌≡◌, ℕ, zero, suc, ◌+◌, ◌<◌, ◌≤◌, ◌⊎◌, inl, inr, arith, refl, sym, ap, subst, ◌∙◌, List, [], ◌∷◌, length, Bool, true, false, cond, ltb, leb, ◌&&◌, max}
-use Rattle.std.specs.Prelude.{All}
-use Rattle.std.proofs.lemmas.Bool.{cases_lt, cases_eq, and_from, and_left, and_right, le-leb, lt-leb, lt-ltb, le-ltb, cases_Bool, both_ways, false_from_ne_true, and_parts, leb-true, ltb-true}
+use Rattle.std.proofs.Common.{◌≡◌, ℕ, ◌+◌, ◌<◌, ◌≤◌, inl, inr, arith, refl, ap, subst, List, [], ◌∷◌, length, Bool, true, cond, ltb, leb}
+use Rattle.std.proofs.lemmas.Bool.{and_from, and_left, and_right, le-leb, lt-leb, lt-ltb, le-ltb, cases_Bool, both_ways}
 use Rattle.rcpsp_model.specs.declared.parts.Entry.{Entry}
-use Rattle.rcpsp_model.specs.Project.{Project, duration, request, capacity, IsRenewable, is_before, Before}
+use Rattle.rcpsp_model.specs.Project.{Project, duration, request, IsRenewable, is_before, Before}
 use Rattle.rcpsp_model.specs.Schedule.{cap, calm, finish, is_active, usage, end_of}
 use Rattle.rcpsp_model.specs.Tree.{Fits, CanStart, last_start}
+use Rattle.rcpsp_model.specs.Laws.{CapLaw, WholeLaw, CalmLaw}
 use Rattle.rcpsp_model.proofs.Lists.{In, total, total-zero, sum_by-filter, In-All, All-from_In}
 use Rattle.rcpsp_model.proofs.Numbers.{Decided, le_decided, lt_decided, below_decided}
 
@@ -79,17 +79,17 @@ can_start_decided P F j m t =
     ]
 
 -- a capacity is at most the whole one, and whole from the calm on
-pub cap-le-capacity : (P : Project) (k t : ℕ) → cap P k t ≤ capacity P k
+pub cap_law : CapLaw
 unfolding cap
-cap-le-capacity P k t = omega arith
+cap_law P k t = omega arith
 
-pub cap-calm : (P : Project) (k t : ℕ) → calm P ≤ t → cap P k t ≡ capacity P k
+pub whole_law : WholeLaw
 unfolding cap
-cap-calm P k t h = refl
+whole_law P k t h = refl
 
-pub calm-le : (P : Project) → calm P ≤ 10000
+pub calm_law : CalmLaw
 unfolding calm
-calm-le P = omega arith
+calm_law P = omega arith
 
 -- from the end on nothing is used
 pub usage-past_end : (P : Project) (es : List Entry) (k t : ℕ) → end_of P es ≤ t → usage P es k t ≡ 0

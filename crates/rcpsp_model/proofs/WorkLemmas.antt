@@ -1,7 +1,6 @@
 -- What a renewable resource has to hold from a front's last start on: the work bound, and its quotient.
-use Rattle.std.proofs.Common.{◌≡◌, ℕ, zero, suc, ◌+◌, ◌*◌, ◌-◌, ◌/◌, ◌<◌, ◌≤◌, max, min, ◌⊎◌, inl, inr, arith, refl, sym, ap, subst, ◌∙◌, List, [], ◌∷◌, ◌++◌, length, Bool, true, false, cond, add-one}
-use Rattle.std.specs.Prelude.{sum_by}
-use Rattle.std.proofs.Math.Nat.{mul-suc, suc-mul, mul_comm, mul-le-mul_left, lt-div-mul-add}
+use Rattle.std.proofs.Common.{◌≡◌, ℕ, zero, suc, ◌+◌, ◌*◌, ◌-◌, ◌<◌, ◌≤◌, max, inl, inr, arith, refl, ap, ◌∙◌, List, [], ◌∷◌, Bool, true, false, cond}
+use Rattle.std.proofs.Math.Nat.{mul-suc, suc-mul, mul_comm, lt-div-mul-add}
 use Rattle.std.proofs.lemmas.Nat.{div_below}
 use Rattle.std.proofs.lemmas.Bool.{cases_lt}
 use Rattle.std.proofs.lemmas.List.Sums.{fold_push}
@@ -12,12 +11,12 @@ use Rattle.rcpsp_model.specs.Schedule.{finish, usage, end_of, entries, cap, calm
 use Rattle.rcpsp_model.specs.Chain.{IsLeast}
 use Rattle.rcpsp_model.specs.Modes.{least_work}
 use Rattle.rcpsp_model.specs.Tree.{has_job, last_start, Follows, IsFront, Completes}
-use Rattle.rcpsp_model.specs.Bounds.{periods_left, rest_work, supply, HoldsWork, IsWorkBound}
+use Rattle.rcpsp_model.specs.Bounds.{periods_left, rest_work, supply, HoldsWork}
 use Rattle.rcpsp_model.specs.Laws.{WorkLaw, QuotientLaw, quotient_up}
 use Rattle.rcpsp_model.proofs.Lists.{In, In-push, In-All, total, total-le, sum_by-total}
 use Rattle.rcpsp_model.proofs.Entries.{total-others, entries-distinct}
-use Rattle.rcpsp_model.proofs.Usage.{load, usage-total, load-active, finish-le-end, end-le, cap-calm}
-use Rattle.rcpsp_model.proofs.ModeLemmas.{least_work-le, sum_by-unplaced, cond-mono}
+use Rattle.rcpsp_model.proofs.Usage.{load, usage-total, load-active, finish-le-end, end-le, whole_law}
+use Rattle.rcpsp_model.proofs.ModeLemmas.{least_work-le, sum_by-unplaced}
 use Rattle.rcpsp_model.proofs.ExchangeLemmas.{kept-In, front-distinct}
 use Rattle.rcpsp_model.proofs.FrontLemmas.{last-le-end, in_turn}
 
@@ -146,7 +145,7 @@ work_law P F s k w f c b =
 supply-whole : (P : Project) (k t n : ℕ) → calm P ≤ t → supply P k t n ≡ n * capacity P k
 supply-whole P k t zero h = omega arith
 supply-whole P k t (suc n) h =
-    let now = cap-calm P k t h in
+    let now = whole_law P k t h in
     let ih = supply-whole P k (t + 1) n (omega arith) in
     let product = suc-mul n (capacity P k) in
     omega arith
