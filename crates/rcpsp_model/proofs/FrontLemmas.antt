@@ -83,15 +83,19 @@ start-le P F e f = f.start.least (max (end_of P F) (calm P)) (record {
   fits = fits-past_end P F e.job e.mode (max (end_of P F) (calm P)) (fits-executable P F e.job e.mode e.start f.start.attained.fits) (omega arith) (omega arith);
 })
 
+pub activity-within : (P : Project) → IsWithinLimits P → (j : ℕ) → IsJob P j → IsActivityWithinLimits (length P.activities) (length P.capacities) (length P.budgets) (get_or P.activities (j - 1) no_activity)
+unfolding job_count
+activity-within P w j a =
+    All-get_or (IsActivityWithinLimits (length P.activities) (length P.capacities) (length P.budgets)) P.activities (j - 1) no_activity (let low = a.0 in let high = a.1 in omega arith) w.activities
+
+pub mode-within : (P : Project) → IsWithinLimits P → (j m : ℕ) → IsJob P j → IsMode P j m → IsModeWithinLimits (length P.capacities) (length P.budgets) (mode_of P j m)
+unfolding mode_of modes_of
+mode-within P w j m a b =
+    All-get_or (IsModeWithinLimits (length P.capacities) (length P.budgets)) (get_or P.activities (j - 1) no_activity).modes (m - 1) no_mode (let low = b.0 in let high = b.1 in omega arith) (activity-within P w j a).modes
+
 pub duration-limit : (P : Project) → IsWithinLimits P → (j m : ℕ) → IsJob P j → IsMode P j m → duration P j m ≤ 10000
-unfolding duration mode_of modes_of job_count
-duration-limit P w j m a b =
-    let Fine : Activity → Type 0 = IsActivityWithinLimits (length P.activities) (length P.capacities) (length P.budgets) in
-    let Short : Mode → Type 0 = IsModeWithinLimits (length P.capacities) (length P.budgets) in
-    let row : Fine (get_or P.activities (j - 1) no_activity) = All-get_or Fine P.activities (j - 1) no_activity (let low = a.0 in let high = a.1 in omega arith) w.activities in
-    let ms : List Mode = (get_or P.activities (j - 1) no_activity).modes in
-    let fine : Short (get_or ms (m - 1) no_mode) = All-get_or Short ms (m - 1) no_mode (let low = b.0 in let high = b.1 in omega arith) row.modes in
-    fine.duration
+unfolding duration
+duration-limit P w j m a b = (mode-within P w j m a b).duration
 
 -- A front ends within its durations after the calm.
 end-in_turn : (P : Project) → IsWithinLimits P → (F es : List Entry) → InTurn (Follows P) F es → end_of P F ≤ calm P + 10000 * length F → end_of P (F ++ es) ≤ calm P + 10000 * length (F ++ es)

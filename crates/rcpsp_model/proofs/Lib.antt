@@ -6,6 +6,7 @@ pub mod Usage
 pub mod ModeLemmas
 pub mod ExchangeLemmas
 pub mod FrontLemmas
+pub mod SameLemmas
 pub mod BoundLemmas
 pub mod WorkLemmas
 pub mod DominanceLemmas

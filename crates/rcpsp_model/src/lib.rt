@@ -13,5 +13,5 @@ pub use bounds::{budget_gap, job_tail, lower_bound, tail_bound, work_bound, work
 pub use log::closed_log;
 pub use parts::{Child, Entry, Mode, Placing, Shut, Verdict};
 pub use plan::{first_plan, no_executable_mode, placed_in_turn};
-pub use project::capacities;
+pub use project::{capacities, same_facts};
 pub use tree::{children, dominance, exchange, front_limits, leaf, root};
