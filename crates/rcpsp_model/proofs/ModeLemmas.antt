@@ -101,10 +101,10 @@ either_decided (inl a) d = inl (inl a)
 either_decided (inr n) (inl b) = inl (inr b)
 either_decided (inr n) (inr k) = inr (λ e. elim e [ inl a ↦ n a | inr b ↦ k b ])
 
-renewable_decided : (P : Project) (k : ℕ) → Decided (IsRenewable P k)
+pub renewable_decided : (P : Project) (k : ℕ) → Decided (IsRenewable P k)
 renewable_decided P k = both_decided (le_decided 1 k) (le_decided k (length P.capacities))
 
-nonrenewable_decided : (P : Project) (l : ℕ) → Decided (IsNonrenewable P l)
+pub nonrenewable_decided : (P : Project) (l : ℕ) → Decided (IsNonrenewable P l)
 nonrenewable_decided P l = both_decided (le_decided 1 l) (le_decided l (length P.budgets))
 
 less_decided : (P : Project) (j n m : ℕ) → Decided (TakesLess P j n m)
@@ -135,7 +135,7 @@ no_more_decided P j n m =
       | inr no_ ↦ inr (λ t. no_ (t.duration, (λ k _. t.requests k, λ l _. t.needs l)))
     ]
 
-inefficient_decided : (P : Project) (j m n : ℕ) → Decided (IsInefficientBy P j m n)
+pub inefficient_decided : (P : Project) (j m n : ℕ) → Decided (IsInefficientBy P j m n)
 inefficient_decided P j m n =
     elim (both_decided (both_decided (le_decided 1 n) (le_decided n (length (modes_of P j)))) (both_decided (no_more_decided P j n m) (either_decided (less_decided P j n m) (lt_decided n m)))) [
       | inl h ↦ inl (record { mode = h.0; no_more = h.1.0; preferred = h.1.1 })

@@ -9,6 +9,7 @@ use Rattle.rcpsp_model.specs.declared.parts.Mode.{Mode}
 use Rattle.rcpsp_model.specs.Project.{Activity, Project, no_mode, no_activity, job_count, renewables, nonrenewables, modes_of, successors_of, mode_of, duration, request, need, capacity, budget, is_before, IsJob, IsMode, IsRenewable, IsNonrenewable, IsAscending, IsModeWithinLimits, IsActivityWithinLimits, IsWithinLimits, IsProject}
 use Rattle.rcpsp_model.specs.Laws.{SameFacts, SameFactsLaw}
 use Rattle.rcpsp_model.proofs.Lists.{In}
+use Rattle.rcpsp_model.proofs.Successors.{before-any}
 use Rattle.rcpsp_model.proofs.FrontLemmas.{activity-within, mode-within}
 
 -- lists of one length with the same items, counted from 1
@@ -70,10 +71,6 @@ project_with a c b = record { activities = a; capacities = c; budgets = b }
 same-project : (P Q : Project) → P.activities ≡ Q.activities → P.capacities ≡ Q.capacities → P.budgets ≡ Q.budgets → P ≡ Q
 same-project P Q a c b =
     ap (λ (x : List Activity). project_with x P.capacities P.budgets) a ∙ ap (λ (x : List ℕ). project_with Q.activities x P.budgets) c ∙ ap (λ (x : List ℕ). project_with Q.activities Q.capacities x) b
-
-before-any : (P : Project) (i j : ℕ) → 1 ≤ i → is_before P i j ≡ list_any (λ s. eqb s j) (successors_of P i)
-unfolding is_before
-before-any P i j h = ap (λ (b : Bool). b && list_any (λ s. eqb s j) (successors_of P i)) (le-leb 1 i h)
 
 same-mode_of : (P Q : Project) → IsProject P → IsProject Q → SameFacts P Q → (j m : ℕ) → IsJob P j → IsJob Q j → IsMode P j m → IsMode Q j m → mode_of P j m ≡ mode_of Q j m
 unfolding duration request need

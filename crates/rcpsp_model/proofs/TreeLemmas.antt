@@ -1,4 +1,4 @@
--- The root, the leaves, and the children of a front in their order.
+-- The root, the leaves, and a longer front.
 use Rattle.std.proofs.Common.{◌≡◌, ℕ, zero, suc, ◌+◌, ◌≤◌, inl, inr, arith, refl, sym, ap, subst, ◌∙◌, List, [], ◌∷◌, ◌++◌, append_assoc, length, Bool, false, cond, eqb, ◌||◌, replicate, not}
 use Rattle.std.specs.Prelude.{Contains}
 use Rattle.std.proofs.lemmas.Bool.{both_ways, cases_eq}
@@ -100,26 +100,6 @@ leaf_law P F a f leaf = record {
     back : (e : Entry) → In (entries own) e → In F e
     back = plan-entries P F own leaf size sub
 
--- The needs of an entry don't speak of its start.
-has_job-start : (F : List Entry) (j m t u i : ℕ) → has_job (F ++ entry_at j m t ∷ []) i ≡ has_job (F ++ entry_at j m u ∷ []) i
-has_job-start [] j m t u i = refl
-has_job-start (x ∷ F) j m t u i = ap (λ (b : Bool). eqb x.job i || b) (has_job-start F j m t u i)
-
-pub used-start : (P : Project) (F : List Entry) (j m t u l : ℕ) → used P (F ++ entry_at j m t ∷ []) l ≡ used P (F ++ entry_at j m u ∷ []) l
-used-start P F j m t u l =
-    let one = sum_by_push (λ (e : Entry). need P e.job e.mode l) F (entry_at j m t) in
-    let two = sum_by_push (λ (e : Entry). need P e.job e.mode l) F (entry_at j m u) in
-    omega arith
-
-pub rest_need-start : (P : Project) (F : List Entry) (j m t u l : ℕ) → rest_need P (F ++ entry_at j m t ∷ []) l ≡ rest_need P (F ++ entry_at j m u ∷ []) l
-rest_need-start P F j m t u l =
-    let g : ℕ → ℕ = λ i. least_need P i l in
-    let one = sum_by-filter g (λ i. not (has_job (F ++ entry_at j m t ∷ []) i)) (jobs P) in
-    let two = sum_by-filter g (λ i. not (has_job (F ++ entry_at j m u ∷ []) i)) (jobs P) in
-    let same = total-same (λ i. cond (not (has_job (F ++ entry_at j m t ∷ []) i)) (g i) 0) (λ i. cond (not (has_job (F ++ entry_at j m u ∷ []) i)) (g i) 0) (jobs P)
-    (λ i _. ap (λ (b : Bool). cond (not b) (g i) 0) (has_job-start F j m t u i)) in
-    omega arith
-
 -- One more entry makes a longer front.
 in_turn-push : {X : Type 0} (R : List X → X → Type 0) (before xs : List X) (x : X) → InTurn R before xs → R (before ++ xs) x → InTurn R before (xs ++ x ∷ [])
 in_turn-push {X = X} R before [] x t r = (subst (λ (ys : List X). R ys x) (append-nil before) r, tt)
@@ -127,79 +107,3 @@ in_turn-push {X = X} R before (y ∷ ys) x t r = (t.0, in_turn-push R (before ++
 
 pub front-push : (P : Project) (F : List Entry) (e : Entry) → IsFront P F → Follows P F e → IsFront P (F ++ e ∷ [])
 front-push P F e f follows = in_turn-push (Follows P) [] F e f follows
-
--- Among the children is the one by each eligible job and each of its modes.
-in_modes : (P : Project) (F : List Entry) (j n m : ℕ) (cs : List (Child (List Entry))) → ByMode P F j n cs → 1 ≤ m → m ≤ n → (c : Child (List Entry)) × Contains cs c × IsChild P F j m c
-in_modes P F j zero m cs b low high = absurd (omega arith)
-in_modes P F j (suc n) m cs b low high =
-    elim (cases_eq m (suc n)) [
-      | inl e ↦ (b.1, subst (λ (xs : List (Child (List Entry))). Contains xs b.1) (sym b.2) (Contains-push b.0 b.1), subst (λ (k : ℕ). IsChild P F j k b.1) (sym e) b.4)
-      | inr ne ↦ let r = in_modes P F j n m b.0 b.3 low (omega arith) in
-          (r.0, subst (λ (xs : List (Child (List Entry))). Contains xs r.0) (sym b.2) (Contains-append_left b.0 (b.1 ∷ []) r.0 r.1), r.2)
-    ]
-
-in_jobs : (P : Project) (F : List Entry) (n j m : ℕ) (cs : List (Child (List Entry))) → ByJobs P F n cs → 1 ≤ j → j ≤ n → IsEligible P F j → IsMode P j m → (c : Child (List Entry)) × Contains cs c × IsChild P F j m c
-in_jobs P F zero j m cs b low high el mode = absurd (omega arith)
-in_jobs P F (suc n) j m cs b low high el mode =
-    let more = b.2 in
-    elim (cases_eq j (suc n)) [
-      | inl e ↦ elim (subst (λ (k : ℕ). ByJob P F k more.0) (sym e) more.2) [
-        | inl here ↦ let r = in_modes P F j (length (modes_of P j)) m more.0 here.1 mode.0 mode.1 in
-            (r.0, subst (λ (xs : List (Child (List Entry))). Contains xs r.0) (sym more.1) (Contains-append_right b.0 more.0 r.0 r.1), r.2)
-        | inr none ↦ absurd (none.0 el)
-      ]
-      | inr ne ↦ let r = in_jobs P F n j m b.0 b.1 low (omega arith) el mode in
-          (r.0, subst (λ (xs : List (Child (List Entry))). Contains xs r.0) (sym more.1) (Contains-append_left b.0 more.0 r.0 r.1), r.2)
-    ]
-
--- Where no cause to shut it applies, the child is placed at the least start.
-child-placed : (P : Project) (F : List Entry) (e : Entry) (c : Child (List Entry)) → IsPlacedChild P F e → IsChild P F e.job e.mode c → c ≡ Placed (F ++ e ∷ [])
-child-placed P F e (Placed G) p c =
-    let other = c.2.follows.start in let own = p.follows.start in
-    let same : c.0 ≡ e.start = let down = other.least e.start own.attained in let up = own.least c.0 other.attained in omega arith in
-    ap Placed (c.1 ∙ ap (λ (t : ℕ). F ++ entry_at e.job e.mode t ∷ []) same)
-child-placed P F e (Shut i n (NoCapacity k)) p c =
-    let lack = c.2.attained in let ok = p.executable lack.takes_time k lack.renewable in let more = lack.lacks in absurd (omega arith)
-child-placed P F e (Shut i n (NoBudget l)) p c =
-    let gap = c.2.1.attained in
-    let ok = p.budgets l gap.nonrenewable in
-    let same = used-start P F e.job e.mode e.start 0 l in
-    let rest = rest_need-start P F e.job e.mode e.start 0 l in
-    let more = gap.exceeds in
-    absurd (omega arith)
-child-placed P F e (Shut i n (Inefficient m)) p c = absurd (p.efficient m c.2.2.attained)
-
--- each child is one by some job and mode
-abbrev IsSomeChild : Project → List Entry → Child (List Entry) → Type 0
-IsSomeChild P F c = (j : ℕ) × (m : ℕ) × IsChild P F j m c
-
-of_modes : (P : Project) (F : List Entry) (j n : ℕ) (cs : List (Child (List Entry))) → ByMode P F j n cs → (c : Child (List Entry)) → In cs c → IsSomeChild P F c
-of_modes P F j zero cs b c i = absurd (subst (λ (xs : List (Child (List Entry))). In xs c) b i)
-of_modes P F j (suc n) cs b c i = elim (In-push b.0 b.1 c (subst (λ (xs : List (Child (List Entry))). In xs c) b.2 i)) [
-  | inl old ↦ of_modes P F j n b.0 b.3 c old
-  | inr new ↦ (j, suc n, subst (IsChild P F j (suc n)) new b.4)
-]
-
-of_jobs : (P : Project) (F : List Entry) (n : ℕ) (cs : List (Child (List Entry))) → ByJobs P F n cs → (c : Child (List Entry)) → In cs c → IsSomeChild P F c
-of_jobs P F zero cs b c i = absurd (subst (λ (xs : List (Child (List Entry))). In xs c) b i)
-of_jobs P F (suc n) cs b c i =
-    let more = b.2 in
-    elim (In-append b.0 more.0 c (subst (λ (xs : List (Child (List Entry))). In xs c) more.1 i)) [
-      | inl old ↦ of_jobs P F n b.0 b.1 c old
-      | inr new ↦ elim more.2 [
-        | inl here ↦ of_modes P F (suc n) (length (modes_of P (suc n))) more.0 here.1 c new
-        | inr none ↦ absurd (subst (λ (xs : List (Child (List Entry))). In xs c) none.1 new)
-      ]
-    ]
-
-pub children_law : ChildrenLaw
-children_law P F cs f are = record {
-  fronts = λ G i.
-      let one = of_jobs P F (job_count P) cs are (Placed G) (In-from_Contains cs (Placed G) i) in
-      let c = one.2 in
-      subst (IsFront P) (sym c.1) (front-push P F (entry_at one.0 one.1 c.0) f c.2.follows);
-  whole = λ e p.
-      let el = p.follows.eligible in
-      let r = in_jobs P F (job_count P) e.job e.mode cs are el.job.0 el.job.1 el p.follows.mode in
-      subst (Contains cs) (child-placed P F e r.0 p r.2) r.1;
-}

@@ -80,6 +80,16 @@ pub record Exchange (P : Project) (F : List Entry) (s : List Placing) : Type 0 w
 abbrev pub ExchangeLaw : Type 0
 ExchangeLaw = (P : Project) (F : List Entry) (s : List Placing) → IsAcyclic P → IsFront P F → (IsLeaf P F → ⊥) → Completes P F s → Exchange P F s
 
+-- a list of a front's children, and no other list
+pub record OneList (P : Project) (F : List Entry) : Type 0 where
+  pub children : List (Child (List Entry))
+  pub are : AreChildren P F children
+  pub only : (cs : List (Child (List Entry))) → AreChildren P F cs → cs ≡ children
+
+-- the children are known by the front: each eligible job has exactly one by each of its modes
+abbrev pub OneListLaw : Type 0
+OneListLaw = (P : Project) (F : List Entry) → OneList P F
+
 -- the placed among the children are fronts, and all placed children are among them
 pub record ListsChildren (P : Project) (F : List Entry) (cs : List (Child (List Entry))) : Type 0 where
   pub fronts : (G : List Entry) → Contains cs (Placed G) → IsFront P G

@@ -14,4 +14,4 @@ pub use log::closed_log;
 pub use parts::{Child, Entry, Mode, Placing, Shut, Verdict};
 pub use plan::{first_plan, no_executable_mode, placed_in_turn};
 pub use project::{capacities, same_facts};
-pub use tree::{children, dominance, exchange, front_limits, leaf, root};
+pub use tree::{children, dominance, exchange, front_limits, leaf, one_list, root};

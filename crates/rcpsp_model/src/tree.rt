@@ -1,4 +1,4 @@
-ghost use Rattle.rcpsp_model.specs.Laws.{FrontLaw, RootLaw, LeafLaw, ExchangeLaw, ChildrenLaw, DominanceLaw};
+ghost use Rattle.rcpsp_model.specs.Laws.{FrontLaw, RootLaw, LeafLaw, ExchangeLaw, OneListLaw, ChildrenLaw, DominanceLaw};
 
 /// How long a front can be, and when it ends at the latest.
 #[tactic(auto, using(crate::proofs::TreeLemmas::front_law))]
@@ -25,8 +25,14 @@ pub fn exchange()
     ensures { ExchangeLaw }
 {}
 
+/// A front has one list of children: each eligible job has exactly one child by each of its modes.
+#[tactic(auto, using(crate::proofs::ChildLemmas::one_list_law))]
+pub fn one_list()
+    ensures { OneListLaw }
+{}
+
 /// The list of a front's children has all its placed children, and each of them is a front.
-#[tactic(auto, using(crate::proofs::TreeLemmas::children_law))]
+#[tactic(auto, using(crate::proofs::ChildLemmas::children_law))]
 pub fn children()
     ensures { ChildrenLaw }
 {}
