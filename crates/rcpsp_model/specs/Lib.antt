@@ -1,3 +1,12 @@
 pub mod Project
 pub mod Schedule
 pub mod Chain
+pub mod Modes
+pub mod Tree
+pub mod Bounds
+pub mod Dominance
+pub mod Rank
+pub mod Plan
+pub mod Claim
+pub mod Log
+pub mod Laws

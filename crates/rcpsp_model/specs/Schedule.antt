@@ -3,7 +3,7 @@
 use Rattle.std.specs.Prelude.{◌≡◌, ℕ, ◌+◌, ◌<◌, ◌≤◌, max, ◌&&◌, Bool, List, [], ◌∷◌, length, nat_le, nat_lt, sum_by, filter, All, Contains}
 use Rattle.rcpsp_model.specs.declared.parts.Entry.{Entry}
 use Rattle.rcpsp_model.specs.declared.parts.Placing.{Placing}
-use Rattle.rcpsp_model.specs.Project.{Project, duration, request, need, capacity, budget, job_count, Before, IsMode, IsRenewable, IsNonrenewable}
+use Rattle.rcpsp_model.specs.Project.{Project, duration, request, need, capacity, budget, job_count, Before, IsJob, IsMode, IsRenewable, IsNonrenewable}
 
 -- the first period after the entry
 abbrev pub finish : Project → Entry → ℕ
@@ -51,3 +51,26 @@ pub record IsFeasible (P : Project) (s : List Placing) : Type 0 where
   pub precedence : (a b : Entry) → Contains (entries s) a → Contains (entries s) b → Before P a.job b.job → finish P a ≤ b.start
   pub capacity : (k t : ℕ) → IsRenewable P k → t < end_of P (entries s) → usage P (entries s) k t ≤ cap P k t
   pub budgets : (l : ℕ) → IsNonrenewable P l → used P (entries s) l ≤ budget P l
+
+-- Facts of any list of entries, as a front or a part of a schedule.
+
+-- the entries keep every capacity in every period
+abbrev pub KeepsCapacities : Project → List Entry → Type 0
+KeepsCapacities P es = (k t : ℕ) → IsRenewable P k → usage P es k t ≤ cap P k t
+
+-- what the entries need keeps every budget
+abbrev pub KeepsBudgets : Project → List Entry → Type 0
+KeepsBudgets P es = (l : ℕ) → IsNonrenewable P l → used P es l ≤ budget P l
+
+-- an entry of a job and a mode of the project, with a start up to 999,999,999
+pub record IsOf (P : Project) (e : Entry) : Type 0 where
+  pub job : IsJob P e.job
+  pub mode : IsMode P e.job e.mode
+  pub start : e.start ≤ 999999999
+
+abbrev pub AreOf : Project → List Entry → Type 0
+AreOf P es = All (IsOf P) es
+
+-- the schedule gives the entries' jobs the modes and starts that they have here
+abbrev pub Agrees : List Placing → List Entry → Type 0
+Agrees s es = All (Contains (entries s)) es

@@ -1,7 +1,17 @@
 //! What a reader has to believe: the problem, schedules, fronts, bounds, dominance and plans, as definitions over
-//! plain lists; and the laws that hold of them for all projects.
+//! plain lists; and the laws that hold of them for all projects, each as the contract of a function that does nothing.
 #![tactic(auto)]
 
+mod bounds;
+mod log;
 mod parts;
+mod plan;
+mod project;
+mod tree;
 
-pub use parts::{Entry, Mode, Placing};
+pub use bounds::{budget_gap, job_tail, lower_bound, tail_bound, work_bound, work_quotient};
+pub use log::closed_log;
+pub use parts::{Child, Entry, Mode, Placing, Shut, Verdict};
+pub use plan::{first_plan, no_executable_mode, placed_in_turn};
+pub use project::{capacities, same_facts};
+pub use tree::{children, dominance, exchange, front_limits, leaf, one_list, root};

@@ -30,3 +30,34 @@ pub struct Entry {
     /// The first period, from 0.
     pub start: u32,
 }
+
+/// Why no front comes of an eligible job in one of its modes.
+#[derive(Clone, Copy, Debug, PartialEq, Eq)]
+pub enum Shut {
+    /// The mode asks more of this renewable resource than there is.
+    NoCapacity(u8),
+    /// The needs would exceed the budget of this nonrenewable resource.
+    NoBudget(u8),
+    /// This other mode takes no more.
+    Inefficient(u8),
+}
+
+/// What a front leads to by one more job.
+#[derive(Drop)]
+pub enum Child<Front> {
+    /// The front with the job at its earliest start.
+    Placed(Front),
+    /// No front, and why.
+    Shut { job: u8, mode: u8, why: Shut },
+}
+
+/// What is known of the least duration of all feasible schedules.
+#[derive(Clone, Copy, Debug, PartialEq, Eq)]
+pub enum Verdict {
+    /// The least duration.
+    Optimal { duration: u32 },
+    /// No schedule is feasible.
+    Infeasible,
+    /// No feasible schedule ends before the lower bound. The duration is that of the best schedule known.
+    Limit { duration: Option<u32>, lower: u32 },
+}

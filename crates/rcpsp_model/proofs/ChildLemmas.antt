@@ -1,0 +1,267 @@
+-- The children of a front: each eligible job and mode has one, and their list is one.
+use Rattle.std.proofs.Common.{◌≡◌, ℕ, zero, suc, ◌+◌, ◌<◌, ◌≤◌, max, ◌⊎◌, inl, inr, arith, refl, sym, ap, subst, ◌∙◌, List, [], ◌∷◌, ◌++◌, length, Bool, true, false, cond, eqb, ◌||◌, not, get_or}
+use Rattle.std.specs.Prelude.{All, Contains, sum_by}
+use Rattle.std.proofs.lemmas.Bool.{both_ways, cases_eq, cases_lt, cases_Bool, and_parts}
+use Rattle.std.proofs.lemmas.List.Sums.{sum_by_push}
+use Rattle.std.proofs.lemmas.List.Elements.{Contains-push, Contains-append_left, Contains-append_right}
+use Rattle.rcpsp_model.specs.declared.parts.Child.{Child}
+use Rattle.rcpsp_model.specs.declared.parts.Child.TheVariants.{Placed, Shut}
+use Rattle.rcpsp_model.specs.declared.parts.Entry.{Entry}
+use Rattle.rcpsp_model.specs.declared.parts.Shut.{Shut as Why}
+use Rattle.rcpsp_model.specs.declared.parts.Shut.TheVariants.{NoCapacity, NoBudget, Inefficient}
+use Rattle.rcpsp_model.specs.Project.{Project, job_count, jobs, modes_of, need, request, capacity, budget, duration, is_before, Before, IsJob, IsMode, IsRenewable, IsNonrenewable}
+use Rattle.rcpsp_model.specs.Schedule.{finish, used, end_of, calm}
+use Rattle.rcpsp_model.specs.Chain.{IsLeast}
+use Rattle.rcpsp_model.specs.Modes.{least_need, LacksCapacity, IsExecutable, IsInefficientBy, IsEfficient}
+use Rattle.rcpsp_model.specs.Tree.{has_job, last_start, CanStart, IsEligible, Follows, IsFront, rest_need, HasGap, LeavesBudgets, entry_at, extended, IsShut, IsPlacedChild, IsChild, ByMode, ByJob, ByJobs, AreChildren}
+use Rattle.rcpsp_model.specs.Laws.{ListsChildren, ChildrenLaw, OneList, OneListLaw}
+use Rattle.rcpsp_model.proofs.Lists.{In, In-push, In-append, In-from_Contains, All-from_In, total, total-same, sum_by-filter}
+use Rattle.rcpsp_model.proofs.Numbers.{Decided, le_decided, lt_decided, below_decided, least_below, least_of}
+use Rattle.rcpsp_model.proofs.Usage.{finish-le-end, can_start_decided, both_decided, implies_decided}
+use Rattle.rcpsp_model.proofs.ModeLemmas.{inefficient_decided, renewable_decided, nonrenewable_decided}
+use Rattle.rcpsp_model.proofs.Successors.{before-job}
+use Rattle.rcpsp_model.proofs.FrontLemmas.{fits-past_end, last-le-end}
+use Rattle.rcpsp_model.proofs.TreeLemmas.{front-push}
+
+-- The needs of an entry don't speak of its start.
+has_job-start : (F : List Entry) (j m t u i : ℕ) → has_job (F ++ entry_at j m t ∷ []) i ≡ has_job (F ++ entry_at j m u ∷ []) i
+has_job-start [] j m t u i = refl
+has_job-start (x ∷ F) j m t u i = ap (λ (b : Bool). eqb x.job i || b) (has_job-start F j m t u i)
+
+pub used-start : (P : Project) (F : List Entry) (j m t u l : ℕ) → used P (F ++ entry_at j m t ∷ []) l ≡ used P (F ++ entry_at j m u ∷ []) l
+used-start P F j m t u l =
+    let one = sum_by_push (λ (e : Entry). need P e.job e.mode l) F (entry_at j m t) in
+    let two = sum_by_push (λ (e : Entry). need P e.job e.mode l) F (entry_at j m u) in
+    omega arith
+
+pub rest_need-start : (P : Project) (F : List Entry) (j m t u l : ℕ) → rest_need P (F ++ entry_at j m t ∷ []) l ≡ rest_need P (F ++ entry_at j m u ∷ []) l
+rest_need-start P F j m t u l =
+    let g : ℕ → ℕ = λ i. least_need P i l in
+    let one = sum_by-filter g (λ i. not (has_job (F ++ entry_at j m t ∷ []) i)) (jobs P) in
+    let two = sum_by-filter g (λ i. not (has_job (F ++ entry_at j m u ∷ []) i)) (jobs P) in
+    let same = total-same (λ i. cond (not (has_job (F ++ entry_at j m t ∷ []) i)) (g i) 0) (λ i. cond (not (has_job (F ++ entry_at j m u ∷ []) i)) (g i) 0) (jobs P)
+    (λ i _. ap (λ (b : Bool). cond (not b) (g i) 0) (has_job-start F j m t u i)) in
+    omega arith
+
+-- Among the children is the one by each eligible job and each of its modes.
+in_modes : (P : Project) (F : List Entry) (j n m : ℕ) (cs : List (Child (List Entry))) → ByMode P F j n cs → 1 ≤ m → m ≤ n → (c : Child (List Entry)) × Contains cs c × IsChild P F j m c
+in_modes P F j zero m cs b low high = absurd (omega arith)
+in_modes P F j (suc n) m cs b low high =
+    elim (cases_eq m (suc n)) [
+      | inl e ↦ (b.1, subst (λ (xs : List (Child (List Entry))). Contains xs b.1) (sym b.2) (Contains-push b.0 b.1), subst (λ (k : ℕ). IsChild P F j k b.1) (sym e) b.4)
+      | inr ne ↦ let r = in_modes P F j n m b.0 b.3 low (omega arith) in
+          (r.0, subst (λ (xs : List (Child (List Entry))). Contains xs r.0) (sym b.2) (Contains-append_left b.0 (b.1 ∷ []) r.0 r.1), r.2)
+    ]
+
+in_jobs : (P : Project) (F : List Entry) (n j m : ℕ) (cs : List (Child (List Entry))) → ByJobs P F n cs → 1 ≤ j → j ≤ n → IsEligible P F j → IsMode P j m → (c : Child (List Entry)) × Contains cs c × IsChild P F j m c
+in_jobs P F zero j m cs b low high el mode = absurd (omega arith)
+in_jobs P F (suc n) j m cs b low high el mode =
+    let more = b.2 in
+    elim (cases_eq j (suc n)) [
+      | inl e ↦ elim (subst (λ (k : ℕ). ByJob P F k more.0) (sym e) more.2) [
+        | inl here ↦ let r = in_modes P F j (length (modes_of P j)) m more.0 here.1 mode.0 mode.1 in
+            (r.0, subst (λ (xs : List (Child (List Entry))). Contains xs r.0) (sym more.1) (Contains-append_right b.0 more.0 r.0 r.1), r.2)
+        | inr none ↦ absurd (none.0 el)
+      ]
+      | inr ne ↦ let r = in_jobs P F n j m b.0 b.1 low (omega arith) el mode in
+          (r.0, subst (λ (xs : List (Child (List Entry))). Contains xs r.0) (sym more.1) (Contains-append_left b.0 more.0 r.0 r.1), r.2)
+    ]
+
+-- Where no cause to shut it applies, the child is placed at the least start.
+child-placed : (P : Project) (F : List Entry) (e : Entry) (c : Child (List Entry)) → IsPlacedChild P F e → IsChild P F e.job e.mode c → c ≡ Placed (F ++ e ∷ [])
+child-placed P F e (Placed G) p c =
+    let other = c.2.follows.start in let own = p.follows.start in
+    let same : c.0 ≡ e.start = let down = other.least e.start own.attained in let up = own.least c.0 other.attained in omega arith in
+    ap Placed (c.1 ∙ ap (λ (t : ℕ). F ++ entry_at e.job e.mode t ∷ []) same)
+child-placed P F e (Shut i n (NoCapacity k)) p c =
+    let lack = c.2.attained in let ok = p.executable lack.takes_time k lack.renewable in let more = lack.lacks in absurd (omega arith)
+child-placed P F e (Shut i n (NoBudget l)) p c =
+    let gap = c.2.1.attained in
+    let ok = p.budgets l gap.nonrenewable in
+    let same = used-start P F e.job e.mode e.start 0 l in
+    let rest = rest_need-start P F e.job e.mode e.start 0 l in
+    let more = gap.exceeds in
+    absurd (omega arith)
+child-placed P F e (Shut i n (Inefficient m)) p c = absurd (p.efficient m c.2.2.attained)
+
+-- each child is one by some job and mode
+abbrev IsSomeChild : Project → List Entry → Child (List Entry) → Type 0
+IsSomeChild P F c = (j : ℕ) × (m : ℕ) × IsChild P F j m c
+
+of_modes : (P : Project) (F : List Entry) (j n : ℕ) (cs : List (Child (List Entry))) → ByMode P F j n cs → (c : Child (List Entry)) → In cs c → IsSomeChild P F c
+of_modes P F j zero cs b c i = absurd (subst (λ (xs : List (Child (List Entry))). In xs c) b i)
+of_modes P F j (suc n) cs b c i = elim (In-push b.0 b.1 c (subst (λ (xs : List (Child (List Entry))). In xs c) b.2 i)) [
+  | inl old ↦ of_modes P F j n b.0 b.3 c old
+  | inr new ↦ (j, suc n, subst (IsChild P F j (suc n)) new b.4)
+]
+
+of_jobs : (P : Project) (F : List Entry) (n : ℕ) (cs : List (Child (List Entry))) → ByJobs P F n cs → (c : Child (List Entry)) → In cs c → IsSomeChild P F c
+of_jobs P F zero cs b c i = absurd (subst (λ (xs : List (Child (List Entry))). In xs c) b i)
+of_jobs P F (suc n) cs b c i =
+    let more = b.2 in
+    elim (In-append b.0 more.0 c (subst (λ (xs : List (Child (List Entry))). In xs c) more.1 i)) [
+      | inl old ↦ of_jobs P F n b.0 b.1 c old
+      | inr new ↦ elim more.2 [
+        | inl here ↦ of_modes P F (suc n) (length (modes_of P (suc n))) more.0 here.1 c new
+        | inr none ↦ absurd (subst (λ (xs : List (Child (List Entry))). In xs c) none.1 new)
+      ]
+    ]
+
+pub children_law : ChildrenLaw
+children_law P F cs f are = record {
+  fronts = λ G i.
+      let one = of_jobs P F (job_count P) cs are (Placed G) (In-from_Contains cs (Placed G) i) in
+      let c = one.2 in
+      subst (IsFront P) (sym c.1) (front-push P F (entry_at one.0 one.1 c.0) f c.2.follows);
+  whole = λ e p.
+      let el = p.follows.eligible in
+      let r = in_jobs P F (job_count P) e.job e.mode cs are el.job.0 el.job.1 el p.follows.mode in
+      subst (Contains cs) (child-placed P F e r.0 p r.2) r.1;
+}
+
+-- A least number is one.
+pub least-one : (Q : ℕ → Type 0) (a b : ℕ) → IsLeast Q a → IsLeast Q b → a ≡ b
+least-one Q a b p q = let up = p.least b q.attained in let down = q.least a p.attained in omega arith
+
+executable-capacity : (P : Project) (j m k : ℕ) → IsExecutable P j m → LacksCapacity P j m k → ⊥
+executable-capacity P j m k can lack = let enough = can lack.takes_time k lack.renewable in let lacks = lack.lacks in omega arith
+
+budgets-gap : (P : Project) (F : List Entry) (l : ℕ) → LeavesBudgets P F → HasGap P F l → ⊥
+budgets-gap P F l leaves gap = let enough = leaves l gap.nonrenewable in let exceeds = gap.exceeds in omega arith
+
+shut-one : (P : Project) (F : List Entry) (j m : ℕ) (a b : Why) → IsShut P F j m a → IsShut P F j m b → a ≡ b
+shut-one P F j m (NoCapacity k) (NoCapacity i) p q = ap NoCapacity (least-one (LacksCapacity P j m) k i p q)
+shut-one P F j m (NoCapacity k) (NoBudget l) p q = absurd (executable-capacity P j m k q.0 p.attained)
+shut-one P F j m (NoCapacity k) (Inefficient n) p q = absurd (executable-capacity P j m k q.0 p.attained)
+shut-one P F j m (NoBudget l) (NoCapacity k) p q = absurd (executable-capacity P j m k p.0 q.attained)
+shut-one P F j m (NoBudget l) (NoBudget i) p q = ap NoBudget (least-one (HasGap P (extended F j m)) l i p.1 q.1)
+shut-one P F j m (NoBudget l) (Inefficient n) p q = absurd (budgets-gap P (extended F j m) l q.1 p.1.attained)
+shut-one P F j m (Inefficient n) (NoCapacity k) p q = absurd (executable-capacity P j m k p.0 q.attained)
+shut-one P F j m (Inefficient n) (NoBudget l) p q = absurd (budgets-gap P (extended F j m) l p.1 q.1.attained)
+shut-one P F j m (Inefficient n) (Inefficient i) p q = ap Inefficient (least-one (IsInefficientBy P j m) n i p.2 q.2)
+
+-- A job in a mode has no two children.
+pub child-one : (P : Project) (F : List Entry) (j m : ℕ) (c d : Child (List Entry)) → IsChild P F j m c → IsChild P F j m d → c ≡ d
+child-one P F j m (Placed G) d p q = ap Placed p.1 ∙ sym (child-placed P F (entry_at j m p.0) d p.2 q)
+child-one P F j m (Shut i n a) (Placed H) p q = child-placed P F (entry_at j m q.0) (Shut i n a) q.2 p ∙ sym (ap Placed q.1)
+child-one P F j m (Shut i n a) (Shut u v b) p q =
+    ap (λ (x : ℕ). Shut x n a) (p.0 ∙ sym q.0) ∙ ap (λ (x : ℕ). Shut u x a) (p.1 ∙ sym q.1) ∙ ap (λ (x : Why). Shut u v x) (shut-one P F j m a b p.2 q.2)
+
+gap_decided : (P : Project) (F : List Entry) (l : ℕ) → Decided (HasGap P F l)
+gap_decided P F l = elim (both_decided (nonrenewable_decided P l) (lt_decided (budget P l) (used P F l + rest_need P F l))) [
+  | inl h ↦ inl (record { nonrenewable = h.0; exceeds = h.1 })
+  | inr no_ ↦ inr (λ g. no_ (g.nonrenewable, g.exceeds))
+]
+
+lack_decided : (P : Project) (j m k : ℕ) → Decided (LacksCapacity P j m k)
+lack_decided P j m k = elim (both_decided (renewable_decided P k) (both_decided (lt_decided 0 (duration P j m)) (lt_decided (capacity P k) (request P j m k)))) [
+  | inl h ↦ inl (record { renewable = h.0; takes_time = h.1.0; lacks = h.1.1 })
+  | inr no_ ↦ inr (λ l. no_ (l.renewable, (l.takes_time, l.lacks)))
+]
+
+-- Past the end of the entries, and from the calm on, an executable mode of a job whose predecessors are placed can start.
+can_start-past_end : (P : Project) (F : List Entry) (j m : ℕ) → IsExecutable P j m → CanStart P F j m (max (end_of P F) (calm P))
+can_start-past_end P F j m can = record {
+  after_last = let last = last-le-end P F in omega arith;
+  after_preds = All-from_In (λ (x : Entry). Before P x.job j → finish P x ≤ max (end_of P F) (calm P)) F (λ x i b. let done = finish-le-end P F x i in omega arith);
+  fits = fits-past_end P F j m (max (end_of P F) (calm P)) can (omega arith) (omega arith);
+}
+
+leaves-start : (P : Project) (F : List Entry) (j m t : ℕ) → LeavesBudgets P (extended F j m) → LeavesBudgets P (F ++ entry_at j m t ∷ [])
+leaves-start P F j m t leaves l r =
+    let ok = leaves l r in let used_ = used-start P F j m t 0 l in let rest = rest_need-start P F j m t 0 l in omega arith
+
+placed-child : (P : Project) (F : List Entry) (j m : ℕ) → IsEligible P F j → IsMode P j m → IsExecutable P j m → LeavesBudgets P (extended F j m) → IsEfficient P j m → (c : Child (List Entry)) × IsChild P F j m c
+placed-child P F j m el mode can leaves efficient =
+    let first = least_of (CanStart P F j m) (can_start_decided P F j m) (max (end_of P F) (calm P)) (can_start-past_end P F j m can) in
+    let t = first.0 in
+    let budgets = leaves-start P F j m t leaves in
+    (Placed (F ++ entry_at j m t ∷ []), (t, refl, record {
+      follows = record { eligible = el; mode = mode; start = first.1; budgets = λ l r. let ok = budgets l r in omega arith };
+      executable = can;
+      budgets = budgets;
+      efficient = efficient;
+    }))
+
+-- An eligible job in one of its modes has a child.
+some_child : (P : Project) (F : List Entry) (j m : ℕ) → IsEligible P F j → IsMode P j m → (c : Child (List Entry)) × IsChild P F j m c
+some_child P F j m el mode =
+    elim (least_below (LacksCapacity P j m) (lack_decided P j m) (length P.capacities + 1)) [
+      | inl lack ↦ (Shut j m (NoCapacity lack.0), (refl, refl, lack.2))
+      | inr none ↦
+          let can : IsExecutable P j m = λ takes_time k r. elim (cases_lt (capacity P k) (request P j m k)) [
+            | inl lacks ↦ absurd (none k (let high = r.1 in omega arith) (record { renewable = r; takes_time = takes_time; lacks = lacks }))
+            | inr enough ↦ enough
+          ] in
+          elim (least_below (HasGap P (extended F j m)) (gap_decided P (extended F j m)) (length P.budgets + 1)) [
+            | inl gap ↦ (Shut j m (NoBudget gap.0), (refl, refl, (can, gap.2)))
+            | inr no_gap ↦
+                let leaves : LeavesBudgets P (extended F j m) = λ l r. elim (cases_lt (budget P l) (used P (extended F j m) l + rest_need P (extended F j m) l)) [
+                  | inl exceeds ↦ absurd (no_gap l (let high = r.1 in omega arith) (record { nonrenewable = r; exceeds = exceeds }))
+                  | inr enough ↦ enough
+                ] in
+                elim (least_below (IsInefficientBy P j m) (inefficient_decided P j m) (length (modes_of P j) + 1)) [
+                  | inl worse ↦ (Shut j m (Inefficient worse.0), (refl, refl, (can, leaves, worse.2)))
+                  | inr best ↦ placed-child P F j m el mode can leaves (λ n b. best n (let high = b.mode.1 in omega arith) b)
+                ]
+          ]
+    ]
+
+-- Lists of children: there is one, and there are no two.
+some_by_mode : (P : Project) (F : List Entry) (j n : ℕ) → IsEligible P F j → n ≤ length (modes_of P j) → (cs : List (Child (List Entry))) × ByMode P F j n cs
+some_by_mode P F j zero el few = ([], refl)
+some_by_mode P F j (suc n) el few =
+    let before = some_by_mode P F j n el (omega arith) in
+    let c = some_child P F j (suc n) el (omega arith, few) in
+    (before.0 ++ c.0 ∷ [], (before.0, c.0, refl, before.1, c.1))
+
+by_mode-one : (P : Project) (F : List Entry) (j n : ℕ) (cs ds : List (Child (List Entry))) → ByMode P F j n cs → ByMode P F j n ds → cs ≡ ds
+by_mode-one P F j zero cs ds p q = p ∙ sym q
+by_mode-one P F j (suc n) cs ds p q =
+    let before = by_mode-one P F j n p.0 q.0 p.3 q.3 in
+    let last = child-one P F j (suc n) p.1 q.1 p.4 q.4 in
+    p.2 ∙ ap (λ (xs : List (Child (List Entry))). xs ++ p.1 ∷ []) before ∙ ap (λ (c : Child (List Entry)). q.0 ++ c ∷ []) last ∙ sym q.2
+
+eligible_decided : (P : Project) (F : List Entry) (j : ℕ) → Decided (IsEligible P F j)
+eligible_decided P F j =
+    elim (both_decided (both_decided (le_decided 1 j) (le_decided j (job_count P))) (both_decided (bool_false (has_job F j)) (below_decided (λ i. Before P i j → has_job F i ≡ true) (λ i. implies_decided (bool_true (is_before P i j)) (bool_true (has_job F i))) (job_count P + 1)))) [
+      | inl h ↦ inl (record { job = h.0; unplaced = h.1.0; preds = λ i b. h.1.1 i (let r = before-job P i j b in let high = r.1 in omega arith) b })
+      | inr no_ ↦ inr (λ e. no_ (e.job, (e.unplaced, λ i _. e.preds i)))
+    ]
+  where
+    bool_true : (b : Bool) → Decided (b ≡ true)
+    bool_true b = elim (cases_Bool b) [ inl y ↦ inl y | inr n ↦ inr (λ y. both_ways b n y) ]
+
+    bool_false : (b : Bool) → Decided (b ≡ false)
+    bool_false b = elim (cases_Bool b) [ inl y ↦ inr (λ n. both_ways b n y) | inr n ↦ inl n ]
+
+some_by_job : (P : Project) (F : List Entry) (j : ℕ) → (cs : List (Child (List Entry))) × ByJob P F j cs
+some_by_job P F j = elim (eligible_decided P F j) [
+  | inl el ↦ let own = some_by_mode P F j (length (modes_of P j)) el (omega arith) in (own.0, inl (el, own.1))
+  | inr not_ ↦ ([], inr (not_, refl))
+]
+
+by_job-one : (P : Project) (F : List Entry) (j : ℕ) (cs ds : List (Child (List Entry))) → ByJob P F j cs → ByJob P F j ds → cs ≡ ds
+by_job-one P F j cs ds (inl p) (inl q) = by_mode-one P F j (length (modes_of P j)) cs ds p.1 q.1
+by_job-one P F j cs ds (inl p) (inr q) = absurd (q.0 p.0)
+by_job-one P F j cs ds (inr p) (inl q) = absurd (p.0 q.0)
+by_job-one P F j cs ds (inr p) (inr q) = p.1 ∙ sym q.1
+
+some_by_jobs : (P : Project) (F : List Entry) (n : ℕ) → (cs : List (Child (List Entry))) × ByJobs P F n cs
+some_by_jobs P F zero = ([], refl)
+some_by_jobs P F (suc n) =
+    let before = some_by_jobs P F n in let more = some_by_job P F (suc n) in
+    (before.0 ++ more.0, (before.0, before.1, (more.0, refl, more.1)))
+
+by_jobs-one : (P : Project) (F : List Entry) (n : ℕ) (cs ds : List (Child (List Entry))) → ByJobs P F n cs → ByJobs P F n ds → cs ≡ ds
+by_jobs-one P F zero cs ds p q = p ∙ sym q
+by_jobs-one P F (suc n) cs ds p q =
+    let before = by_jobs-one P F n p.0 q.0 p.1 q.1 in
+    let more_p = p.2 in let more_q = q.2 in
+    let more = by_job-one P F (suc n) more_p.0 more_q.0 more_p.2 more_q.2 in
+    more_p.1 ∙ ap (λ (xs : List (Child (List Entry))). xs ++ more_p.0) before ∙ ap (λ (xs : List (Child (List Entry))). q.0 ++ xs) more ∙ sym more_q.1
+
+pub one_list_law : OneListLaw
+one_list_law P F =
+    let all = some_by_jobs P F (job_count P) in
+    record { children = all.0; are = all.1; only = λ ds are. by_jobs-one P F (job_count P) ds all.0 are all.1 }

@@ -1,0 +1,17 @@
+pub mod Lists
+pub mod Numbers
+pub mod Entries
+pub mod Changed
+pub mod Usage
+pub mod ModeLemmas
+pub mod ExchangeLemmas
+pub mod FrontLemmas
+pub mod Successors
+pub mod SameLemmas
+pub mod BoundLemmas
+pub mod WorkLemmas
+pub mod DominanceLemmas
+pub mod PlanLemmas
+pub mod TreeLemmas
+pub mod ChildLemmas
+pub mod LogLemmas

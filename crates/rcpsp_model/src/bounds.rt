@@ -1,0 +1,34 @@
+ghost use Rattle.rcpsp_model.specs.Laws.{TailLaw, JobTailLaw, WorkLaw, QuotientLaw, LowerLaw, GapLaw};
+
+/// What completes a front ends at its tail bound or later.
+#[tactic(auto, using(crate::proofs::BoundLemmas::tail_law))]
+pub fn tail_bound()
+    ensures { TailLaw }
+{}
+
+/// No feasible schedule ends before the tail of a job.
+pub fn job_tail()
+    ensures { JobTailLaw }
+{}
+
+/// What completes a front ends at each of its work bounds or later.
+pub fn work_bound()
+    ensures { WorkLaw }
+{}
+
+/// Where the capacity is whole, the work bound is a quotient, rounded up.
+pub fn work_quotient()
+    ensures { QuotientLaw }
+{}
+
+/// What completes a front ends at its lower bound or later.
+#[tactic(auto, using(crate::proofs::BoundLemmas::lower_law))]
+pub fn lower_bound()
+    ensures { LowerLaw }
+{}
+
+/// Nothing completes a front that has a budget gap.
+#[tactic(auto, using(crate::proofs::BoundLemmas::gap_law))]
+pub fn budget_gap()
+    ensures { GapLaw }
+{}
