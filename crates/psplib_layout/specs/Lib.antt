@@ -1,0 +1,4 @@
+pub mod Rule
+pub mod Wanted
+pub mod Reading
+pub mod Place

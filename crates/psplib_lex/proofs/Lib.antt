@@ -1,0 +1,4 @@
+pub mod Cuts
+pub mod Spans
+pub mod Lexed
+pub mod Kept

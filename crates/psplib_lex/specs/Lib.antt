@@ -1,0 +1,4 @@
+pub mod Line
+pub mod Number
+pub mod View
+pub mod Lexing
