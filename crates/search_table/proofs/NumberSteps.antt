@@ -91,7 +91,7 @@ AreNumbered-split workers worker vs i v r at live zeroth pos most out =
     let all : total passes_of new ≡ 1 + length left.split_off = omega arith in
     let known : (j : ℕ) (u : PassView) → At new j u → IsLive u → (u.number ≡ 0) ⊎ Has left.split_off u.number = λ j u e l. ⊎_elim
     (λ (s : Stood vs j u). let sp = s.passes in subst (λ (n : ℕ). (n ≡ 0) ⊎ Has left.split_off n) (sym s.number) (⊎_elim (λ (z : s.old.number ≡ 0). inl z)
-        (λ (z : Has v.split_off s.old.number). inr (Has-before v.split_off worker s.old.number z)) (of.known j s.old s.here (omega arith))))
+    (λ (z : Has v.split_off s.old.number). inr (Has-before v.split_off worker s.old.number z)) (of.known j s.old s.here (omega arith))))
     (λ (s : IsNew mid right j u). inr (subst (λ (z : PassView). Has left.split_off z.number) s.1 (Has-last v.split_off worker))) (stood_or_new vs i v left right at refl refl j u e) in record {
       passes = omega arith;
       apart = split_apart workers worker vs i v r at live zeroth pos out;

@@ -16,6 +16,7 @@ type Words = Table<(), PassView, RoundTerms, RoundRule, Global>;
 
 // The places of the two words.
 const BEST: usize = 0;
+
 const TICKETS: usize = 1;
 
 /// The best end and the tickets of one round. Its workers share it by reference.
@@ -107,10 +108,9 @@ impl RoundTable {
         ensures table { into.new.table ≡ into.old.table }
         ensures view { into.new.view ≡ joint_view into.old.view other.view }
     {
+        let shared = &self.words.shared;
         let other_seat = other.into_seat();
-        self.words
-            .shared
-            .join_seat::<JoinPasses>(&mut into.seat, other_seat);
+        shared.join_seat::<JoinPasses>(&mut into.seat, other_seat);
     }
 
     /// The best at this step, in periods: at most all that the pass had seen or offered.
@@ -134,9 +134,8 @@ impl RoundTable {
         ensures seen { result ≤ pass.old.view.least_seen }
         ensures offered { result ≤ least pass.old.view.terms.start pass.old.view.offers }
     {
-        self.words
-            .shared
-            .fetch_min::<OfferEnd>(&mut pass.seat, BEST, end)
+        let shared = &self.words.shared;
+        shared.fetch_min::<OfferEnd>(&mut pass.seat, BEST, end)
     }
 
     /// Draws a ticket, in one step.
@@ -149,10 +148,8 @@ impl RoundTable {
         ensures drawn { Drawn pass.old.view pass.new.view result }
         ensures within { pass.new.view.won ≤ pass.new.view.terms.quota }
     {
-        let drawn = self
-            .words
-            .shared
-            .fetch_add::<DrawTicket>(&mut pass.seat, TICKETS, 1);
+        let shared = &self.words.shared;
+        let drawn = shared.fetch_add::<DrawTicket>(&mut pass.seat, TICKETS, 1);
         if drawn < pass.terms.quota {
             Draw::Ticket
         } else {
