@@ -1,10 +1,10 @@
 -- The best stays the least of all offers, whichever view changes, comes or is joined away.
-use Rattle.std.proofs.Common.{◌≡◌, ◌≢◌, ℕ, ◌+◌, ◌≤◌, List, [], ◌∷◌, ◌++◌, set, min, sym, refl, ap, ◌∙◌, arith}
+use Rattle.std.proofs.Common.{◌≡◌, ◌≢◌, ℕ, ◌≤◌, List, [], ◌∷◌, ◌++◌, set, min, sym, refl, ap, ◌∙◌, arith}
 use Rattle.atomic_table.proofs.Lists.{set_here, set_else}
 use Rattle.search_table.specs.declared.view.PassView.{PassView}
 use Rattle.search_table.specs.Lists.{least}
 use Rattle.search_table.specs.Views.{with_offer, joint_view, spent_view}
-use Rattle.search_table.specs.Rule.{least_offer, At, IsLive, IsBest}
+use Rattle.search_table.specs.Rule.{At, IsLive, IsBest}
 use Rattle.search_table.proofs.Totals.{At-below, EachView-set, EachView-snoc}
 use Rattle.search_table.proofs.LeastOffers.{least-append, least_offer-le, least_offer-at, least_offer-set, least_offer-snoc}
 

@@ -1,5 +1,5 @@
 -- The rule at the start of a round, and what it gives at its end.
-use Rattle.std.proofs.Common.{◌≡◌, ℕ, zero, suc, ◌+◌, ◌<◌, ◌≤◌, ◌⊎◌, true≢false, List, [], ◌∷◌, length, get_or, min, sym, refl, ap, ◌∙◌, inl, ⊎_elim, subst, arith}
+use Rattle.std.proofs.Common.{◌≡◌, ℕ, zero, suc, ◌+◌, ◌≤◌, true≢false, List, [], ◌∷◌, length, get_or, min, sym, refl, ap, ◌∙◌, inl, subst, arith}
 use mathlib.Core.Option.{some, some-injective, some-ne-none}
 use lib.ListN.{get_elem?}
 use Rattle.atomic_table.specs.Table.{opening, Final, Seen}

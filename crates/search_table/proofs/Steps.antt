@@ -1,5 +1,5 @@
 -- Each kind of step keeps the rule.
-use Rattle.std.proofs.Common.{◌≡◌, ◌≢◌, ℕ, ◌+◌, ◌%◌, ◌^◌, ◌<◌, ◌≤◌, List, [], ◌∷◌, ◌++◌, get_or, set, min, refl, ap, ⊎_elim, subst, arith}
+use Rattle.std.proofs.Common.{◌≡◌, ◌≢◌, ℕ, ◌+◌, ◌%◌, ◌^◌, ◌<◌, ◌≤◌, List, get_or, set, min, refl, ap, ⊎_elim, subst, arith}
 use mathlib.Core.Option.{none}
 use mathlib.Core.Logic.{dite}
 use native.Mathlib.Decide.{dec_le}
@@ -15,7 +15,7 @@ use Rattle.search_table.proofs.Totals.{EachView-set, EachView-snoc}
 use Rattle.search_table.proofs.LeastOffers.{least_offer-at}
 use Rattle.search_table.proofs.BestSteps.{IsBest-set, IsBest-offer, IsBest-snoc, IsBest-join}
 use Rattle.search_table.proofs.TicketSteps.{AreDrawn-set, AreDrawn-ticket, AreDrawn-refusal, AreDrawn-snoc, AreDrawn-join, few_drawn, own_draws}
-use Rattle.search_table.proofs.NumberSteps.{IsSamePass, AreNumbered-set, AreNumbered-split, AreNumbered-join}
+use Rattle.search_table.proofs.NumberSteps.{AreNumbered-set, AreNumbered-split, AreNumbered-join}
 use Rattle.search_table.proofs.Words.{best_becomes, tickets_become}
 
 -- the best is at most all that a pass has seen or offered

@@ -16,6 +16,7 @@ IsLive v = 0 < v.passes
 abbrev pub At : List PassView → ℕ → PassView → Type 0
 At views i v = get_elem? views i ≡ some v
 
+-- each view has the property
 abbrev pub EachView : (PassView → Type 0) → List PassView → Type 0
 EachView P views = (i : ℕ) (v : PassView) → At views i v → P v
 
@@ -24,6 +25,7 @@ abbrev pub total : (PassView → ℕ) → List PassView → ℕ
 total f [] = 0
 total f (v ∷ views) = f v + total f views
 
+-- how many tickets a pass won, how many it was refused, and how many passes it stands for
 abbrev pub won_of : PassView → ℕ
 won_of v = v.won
 

@@ -1,7 +1,8 @@
-//! What the workers of one round of a parallel search share: the best end found so far, and the tickets that they drew.
+//! What the workers of one round of a parallel search share: the best end found so far, and the
+//! tickets that they drew.
 //!
-//! A [`RoundTable`] has two words that change in single atomic steps. A worker takes steps by its [`Pass`]. No call
-//! waits or repeats a step, and only [`RoundTable::new`] takes memory.
+//! A [`RoundTable`] has two words that change in single atomic steps. A worker takes steps by its
+//! [`Pass`]. No call waits or repeats a step, and only [`RoundTable::new`] takes memory.
 #![tactic(auto)]
 
 mod pass;

@@ -19,7 +19,11 @@ impl Model for Pass {
 
     ghost view = { λ p. record { table = p.seat.table_id; view = p.seat.me.0 } };
 
-    ghost invariant = { λ p. (p.number ≡ p.seat.me.0.number) × (p.terms ≡ p.seat.me.0.terms) × (p.seat.me.1 ≡ []) × (0 < p.seat.me.0.passes) };
+    // The fields are those of the view, and the pass is there. It holds no slot.
+    ghost invariant = { λ p. (p.number ≡ p.seat.me.0.number)
+        × (p.terms ≡ p.seat.me.0.terms)
+        × (p.seat.me.1 ≡ [])
+        × (0 < p.seat.me.0.passes) };
 }
 
 impl Pass {

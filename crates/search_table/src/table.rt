@@ -30,7 +30,8 @@ impl Model for RoundTable {
 
     ghost view = { λ t. t.words.shared.table_id };
 
-    ghost invariant = { λ t. (t.words.shared.table_id.words ≡ 2) × (t.words.shared.table_id.slots ≡ 0) };
+    ghost invariant = { λ t. (t.words.shared.table_id.words ≡ 2)
+        × (t.words.shared.table_id.slots ≡ 0) };
 }
 
 /// The answer to a draw.
@@ -54,7 +55,8 @@ pub struct RoundEnd {
 impl RoundTable {
     ghost use Rattle.search_table.specs.Drawn.{Drawn};
 
-    /// A table whose best is the given one, in periods, and from which no ticket was drawn, with the pass of number 0.
+    /// A table whose best is the given one, in periods, and from which no ticket was drawn, and the
+    /// pass of number 0.
     ///
     /// `workers` is 1 to 32, and the quota at most 4,096. Only want of memory is an error.
     pub fn new(
@@ -66,7 +68,8 @@ impl RoundTable {
         requires workers { (0 < workers) × (workers ≤ 32) }
         requires quota { quota ≤ 4096 }
         ensures table { IfOk result (λ p. p.1.table ≡ p.0) }
-        ensures view { IfOk result (λ p. p.1.view ≡ first_view (record { start = best; quota = quota; workers = workers })) }
+        ensures view { IfOk result (λ p. p.1.view
+            ≡ first_view (record { start = best; quota = quota; workers = workers })) }
     {
         let terms = RoundTerms {
             start: best,
@@ -125,7 +128,8 @@ impl RoundTable {
         self.words.shared.load::<LoadBest>(&mut pass.seat, BEST)
     }
 
-    /// Lowers the best to `end`, in periods, where that is less, and gives the best before, all in one step.
+    /// Lowers the best to `end`, in periods, where that is less, and gives the best before it, all
+    /// in one step.
     pub fn offer(&self, pass: &mut Pass, end: u64) -> u64
         requires { pass.old.table ≡ self.now }
         ensures table { pass.new.table ≡ pass.old.table }
@@ -185,12 +189,15 @@ fn split_seat_for<N: NextWorker>(
     seat: &mut Seat<(), PassView>,
     worker: u64,
 ) -> Seat<(), PassView>
-    requires table { (seat.old.table_id ≡ words.now.shared.table_id) × (words.now.shared.table_id.words ≡ 2) }
-    requires live { (0 < seat.old.me.0.passes) × (seat.old.me.0.number ≡ 0) }
-    requires worker { (worker ≡ N.worker) × (0 < worker) × (worker ≤ seat.old.me.0.terms.workers) }
+    requires table { seat.old.table_id ≡ words.now.shared.table_id }
+    requires words { words.now.shared.table_id.words ≡ 2 }
+    requires first { (0 < seat.old.me.0.passes) × (seat.old.me.0.number ≡ 0) }
+    requires picked { worker ≡ N.worker }
+    requires worker { (0 < worker) × (worker ≤ seat.old.me.0.terms.workers) }
     requires once { Lacks seat.old.me.0.split_off worker }
     ensures table { (seat.new.table_id ≡ seat.old.table_id) × (result.table_id ≡ seat.old.table_id) }
-    ensures view { (seat.new.me ≡ (with_worker worker seat.old.me.0, seat.old.me.1)) × (result.me ≡ (worker_view worker seat.old.me.0, [])) }
+    ensures view { seat.new.me ≡ (with_worker worker seat.old.me.0, seat.old.me.1) }
+    ensures split { result.me ≡ (worker_view worker seat.old.me.0, []) }
 {
     words.shared.split_seat::<SplitWorker<N>>(seat)
 }

@@ -26,8 +26,8 @@ pub struct PassView {
     pub won: u64,
     /// How many tickets it was refused.
     pub refused: u64,
-    /// How many passes it stands for: itself, and those that were joined into it. A pass that was joined into
-    /// another stands for none.
+    /// How many passes it stands for: itself, and those that were joined into it. A pass that was
+    /// joined into another stands for none.
     pub passes: u64,
     /// The workers whose passes were split off it, the first one first.
     pub split_off: LinkedList<u64>,

@@ -10,6 +10,6 @@ split_seat-requires g c =
     let k = c.args.words.now.shared.key in let v = c.args.seat.now.me.0 in let id = c.args.seat.now.id in (
       search rules,
       search rules,
-      subst (λ (w : ℕ). Splits (HoldsBetweenSteps k) id v (with_worker w v) (worker_view w v)) c.requires.worker.0
-          (splits k id c.args.worker v c.requires.live.0 c.requires.live.1 c.requires.worker.1 c.requires.worker.2 c.requires.once),
+      subst (λ (w : ℕ). Splits (HoldsBetweenSteps k) id v (with_worker w v) (worker_view w v)) c.requires.picked
+          (splits k id c.args.worker v c.requires.first.0 c.requires.first.1 c.requires.worker.0 c.requires.worker.1 c.requires.once),
     )
