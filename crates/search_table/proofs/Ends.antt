@@ -7,7 +7,7 @@ use Rattle.search_table.specs.declared.view.PassView.{PassView}
 use Rattle.search_table.specs.declared.view.RoundTerms.{RoundTerms}
 use Rattle.search_table.specs.Lists.{least}
 use Rattle.search_table.specs.Views.{first_view}
-use Rattle.search_table.specs.Rule.{total, won_of, refused_of, passes_of, At, IsLive, AreOf, HoldsBetweenSteps}
+use Rattle.search_table.specs.Rule.{total, won_of, refused_of, passes_of, At, IsLive, AreOf, IsOfRound, HoldsBetweenSteps}
 use Rattle.search_table.proofs.Totals.{total-one}
 use Rattle.search_table.proofs.LeastOffers.{least_offer-one}
 use Rattle.search_table.proofs.SplitWorkers.{nothing_once}
@@ -34,7 +34,7 @@ opens k q n = let x : PassView = first_view k in (
         known = λ j u ju _. inl (ap (λ (y : PassView). y.number) (sym (only x j u ju).1));
       };
     };
-    each = λ i v e. subst (λ (u : PassView). Rattle.search_table.specs.Rule.IsOfRound k u) (only x i v e).1 record { terms_of = λ _. refl; spent = λ none. absurd (omega arith) };
+    each = λ i v e. subst (IsOfRound k) (only x i v e).1 record { terms_of = λ _. refl; spent = λ none. absurd (omega arith) };
   },
 )
 
