@@ -1,0 +1,9 @@
+pub mod Totals
+pub mod LeastOffers
+pub mod BestSteps
+pub mod TicketSteps
+pub mod SplitWorkers
+pub mod NumberSteps
+pub mod Words
+pub mod Steps
+pub mod Ends
