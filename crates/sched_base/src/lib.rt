@@ -9,6 +9,8 @@ mod listed;
 mod mem_shelf;
 mod mem_sink;
 mod outside;
+#[cfg(test)]
+mod tests;
 mod writing;
 
 pub use faults::{Failed, NoMemory};
