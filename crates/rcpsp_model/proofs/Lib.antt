@@ -15,3 +15,5 @@ pub mod PlanLemmas
 pub mod TreeLemmas
 pub mod ChildLemmas
 pub mod LogLemmas
+pub mod Tests
+pub mod ExampleLemmas
