@@ -8,117 +8,36 @@ use Rattle.rcpsp_model.specs.declared.parts.Child.TheVariants.{Placed}
 use Rattle.rcpsp_model.specs.declared.parts.Entry.{Entry}
 use Rattle.rcpsp_model.specs.declared.parts.Placing.{Placing}
 use Rattle.rcpsp_model.specs.Project.{Project, job_count, modes_of, mode_of, successors_of, duration, request, need, capacity, budget, is_before, nonrenewables, renewables, Before, IsJob, IsMode, IsNonrenewable, IsAcyclic, IsProject}
-use Rattle.rcpsp_model.specs.Schedule.{finish, usage, used, end_of, entries, cap, IsFeasible, KeepsBudgets}
+use Rattle.rcpsp_model.specs.Schedule.{finish, usage, used, end_of, entries, cap, calm, IsFeasible, KeepsBudgets}
 use Rattle.rcpsp_model.specs.Chain.{least_duration, IsChain, IsGreatest, IsLeast}
-use Rattle.rcpsp_model.specs.Modes.{TakesLess, time, renewable, nonrenewable, IsInefficientBy, IsEfficient, IsExecutable}
+use Rattle.rcpsp_model.specs.Modes.{least_work, TakesLess, time, renewable, nonrenewable, IsInefficientBy, IsEfficient, IsExecutable}
 use Rattle.rcpsp_model.specs.Tree.{has_job, last_start, CanStart, IsEligible, Follows, InTurn, IsFront, LeavesBudgets, entry_at, IsPlacedChild, ByJobs}
 use Rattle.rcpsp_model.specs.Bounds.{ready, TailValue, front, chain, IsTailBound}
 use Rattle.rcpsp_model.specs.Dominance.{Dominates}
+use Rattle.rcpsp_model.specs.Rank.{is_among, HasPredecessors, IsLowestFree}
 use Rattle.rcpsp_model.specs.Examples.{at, two_in_turn, TwoInTurn, zero_lengths, before_fifth, ZeroLengths, short_or_cheap, ShortOrCheap, needs_differ, used_3, used_1, used_1_too, NeedsDiffer}
 use Rattle.rcpsp_model.proofs.Lists.{In, total, sum_by-total, In-from_Contains, All-from_In}
 use Rattle.rcpsp_model.proofs.Entries.{same_entry}
 use Rattle.rcpsp_model.proofs.Successors.{any-In, before-any, before-job}
 use Rattle.rcpsp_model.proofs.Usage.{load, usage-total}
 use Rattle.rcpsp_model.proofs.ExchangeLemmas.{precedes}
+use Rattle.rcpsp_model.proofs.WorkLemmas.{quotient_law}
+use Rattle.rcpsp_model.proofs.TreeTests.{front_test-true, tail_bound-from_tests, rank_test-true, not-true}
 use Rattle.rcpsp_model.proofs.Tests.{all_below, all_below-true, all_to, all_to-true, every, every-In, All-every, implies, implies-true, among, among-true, project-from_tests, feasible_test-true, preds_test, preds_test-true, fits_test, fits_test-true}
-
--- A front whose entries each start at the last start, by computing.
-
-abbrev follows_test : Project → List Entry → Entry → Bool
-follows_test P F e =
-    among (job_count P) e.job && (not (has_job F e.job) && (preds_test P F e.job && (among (length (modes_of P e.job)) e.mode &&
-    (every (λ x. implies (is_before P x.job e.job) (leb (finish P x) e.start)) F && (fits_test P F e.job e.mode e.start &&
-    (all_to (λ l. leb (used P (F ++ e ∷ []) l) (budget P l)) (nonrenewables P) && eqb e.start (last_start F)))))))
-
-not-true : (b : Bool) → not b ≡ true → b ≡ false
-not-true true h = absurd (false≢true h)
-not-true false h = refl
-
-follows_test-true : (P : Project) (F : List Entry) (e : Entry) → follows_test P F e ≡ true → Follows P F e
-follows_test-true P F e h =
-    let Done : Entry → Bool = λ x. implies (is_before P x.job e.job) (leb (finish P x) e.start) in
-    let Paid : ℕ → Bool = λ l. leb (used P (F ++ e ∷ []) l) (budget P l) in
-    let a = and_parts (among (job_count P) e.job) _ h in
-    let b = and_parts (not (has_job F e.job)) _ a.1 in
-    let c = and_parts (preds_test P F e.job) _ b.1 in
-    let d = and_parts (among (length (modes_of P e.job)) e.mode) _ c.1 in
-    let g = and_parts (every Done F) _ d.1 in
-    let i = and_parts (fits_test P F e.job e.mode e.start) _ g.1 in
-    let k = and_parts (all_to Paid (nonrenewables P)) (eqb e.start (last_start F)) i.1 in
-    let same = eqb-true e.start (last_start F) k.1 in
-    record {
-      eligible = record { job = among-true (job_count P) e.job a.0; unplaced = not-true (has_job F e.job) b.0; preds = preds_test-true P F e.job c.0 };
-      mode = among-true (length (modes_of P e.job)) e.mode d.0;
-      start = record {
-        attained = record {
-          after_last = omega arith;
-          after_preds = All-every (λ x. Before P x.job e.job → finish P x ≤ e.start) Done F (λ x t before. leb-true _ _ (implies-true (is_before P x.job e.job) _ t before)) g.0;
-          fits = fits_test-true P F e.job e.mode e.start i.0;
-        };
-        least = λ u can. let last = can.after_last in omega arith;
-      };
-      budgets = λ l r. leb-true _ _ (all_to-true Paid (nonrenewables P) k.0 l r.0 r.1);
-    }
-
-abbrev front_test : Project → List Entry → List Entry → Bool
-front_test P F [] = true
-front_test P F (e ∷ es) = follows_test P F e && front_test P (F ++ e ∷ []) es
-
-front_test-true : (P : Project) (F es : List Entry) → front_test P F es ≡ true → InTurn (Follows P) F es
-front_test-true P F [] h = tt
-front_test-true P F (e ∷ es) h =
-    let a = and_parts (follows_test P F e) (front_test P (F ++ e ∷ []) es) h in (follows_test-true P F e a.0, front_test-true P (F ++ e ∷ []) es a.1)
-
--- A tail bound that is the end of the front, where each job has a number that is at least its tail.
-
-abbrev tails_test : Project → (ℕ → ℕ) → Bool
-tails_test P tail = all_to (λ j. leb (least_duration P j) (tail j) && every (λ k. leb (least_duration P j + tail k) (tail j)) (successors_of P j)) (job_count P)
-
-tails-job : (P : Project) (tail : ℕ → ℕ) → tails_test P tail ≡ true → (j : ℕ) → IsJob P j → least_duration P j ≤ tail j
-tails-job P tail h j job =
-    leb-true _ _ (and_parts (leb (least_duration P j) (tail j)) _
-    (all_to-true (λ i. leb (least_duration P i) (tail i) && every (λ k. leb (least_duration P i + tail k) (tail i)) (successors_of P i)) (job_count P) h j job.0 job.1)).0
-
-tails-pair : (P : Project) (tail : ℕ → ℕ) → tails_test P tail ≡ true → (j k : ℕ) → Before P j k → least_duration P j + tail k ≤ tail j
-tails-pair P tail h j k b =
-    let job = before-job P j k b in
-    leb-true _ _ (every-In (λ i. leb (least_duration P j + tail i) (tail j)) (successors_of P j) (and_parts (leb (least_duration P j) (tail j)) _
-    (all_to-true (λ i. leb (least_duration P i) (tail i) && every (λ k. leb (least_duration P i + tail k) (tail i)) (successors_of P i)) (job_count P) h j job.0 job.1)).1
-    k (any-In (successors_of P j) k (sym (before-any P j k job.0) ∙ b)))
-
-chain-le : (P : Project) (tail : ℕ → ℕ) → IsAcyclic P → tails_test P tail ≡ true → (j : ℕ) (js : List ℕ) → IsJob P j → IsChain P (j ∷ js) → total (least_duration P) (j ∷ js) ≤ tail j
-chain-le P tail a h j [] job c = let own = tails-job P tail h j job in omega arith
-chain-le P tail a h j (k ∷ js) job c =
-    let ih = chain-le P tail a h k js (a.jobs j k c.0).1 c.1 in let pair = tails-pair P tail h j k c.0 in omega arith
-
-abbrev ready_test : Project → List Entry → (ℕ → ℕ) → ℕ → Bool
-ready_test P F tail t = all_to (λ j. has_job F j || leb (ready P F j + tail j) t) (job_count P)
-
-tail_bound-from_tests : (P : Project) (F : List Entry) (tail : ℕ → ℕ) → IsAcyclic P → tails_test P tail ≡ true → ready_test P F tail (end_of P F) ≡ true → IsTailBound P F (end_of P F)
-tail_bound-from_tests P F tail a h r = record { attained = front; greatest = at_most }
-  where
-    at_most : (u : ℕ) → TailValue P F u → u ≤ end_of P F
-    at_most _ front = omega arith
-    at_most _ (chain j js job is_chain free) =
-        let sum = sum_by-total (least_duration P) (j ∷ js) in
-        let along = chain-le P tail a h j js job is_chain in
-        elim (or_cases (has_job F j) (leb (ready P F j + tail j) (end_of P F)) (all_to-true (λ i. has_job F i || leb (ready P F i + tail i) (end_of P F)) (job_count P) r j job.0 job.1)) [
-          | inl placed ↦ absurd (both_ways (has_job F j) (All-head (λ i. has_job F i ≡ false) j js free) placed)
-          | inr soon ↦ let late = leb-true _ _ soon in omega arith
-        ]
 
 two_project : IsProject two_in_turn
 unfolding job_count successors_of
 two_project = project-from_tests two_in_turn (λ j. j) refl refl
 
 pub two_facts : TwoInTurn
-unfolding job_count modes_of mode_of successors_of duration request need capacity budget is_before cap least_duration
+unfolding job_count modes_of mode_of successors_of duration request need capacity budget is_before cap calm least_duration least_work
 two_facts = record {
   project = two_project;
   feasible = feasible_test-true two_in_turn (at 1 0 ∷ at 1 0 ∷ at 1 3 ∷ at 1 5 ∷ []) refl;
   over_capacity = λ f. let over : 4 ≤ 3 = f.capacity 1 0 (omega arith, omega arith) (omega arith) in omega arith;
   too_early = λ f. let late : 5 ≤ 4 = precedes two_in_turn (at 1 0 ∷ at 1 0 ∷ at 1 3 ∷ at 1 4 ∷ []) f (entry_at 3 1 3) (entry_at 4 1 4) (inr (inr (inl refl))) (inr (inr (inr (inl refl)))) refl in omega arith;
   tail_bound = tail_bound-from_tests two_in_turn (entry_at 1 1 0 ∷ entry_at 2 1 0 ∷ []) (λ j. slice_index (3 ∷ 3 ∷ 2 ∷ 0 ∷ []) (j - 1)) two_project.acyclic refl refl;
+  work_bound = (quotient_law two_in_turn [] 1 4 (omega arith, omega arith) (omega arith) (omega arith)).1 refl;
 }
 
 -- where a job has one mode, it is efficient
@@ -182,6 +101,7 @@ unfolding job_count modes_of mode_of successors_of duration request need capacit
 zero_facts = record {
   project = zero_project;
   feasible = feasible_test-true zero_lengths (at 1 0 ∷ at 1 0 ∷ at 1 0 ∷ at 1 0 ∷ at 1 3 ∷ []) refl;
+  rank = (3 ∷ 2 ∷ 1 ∷ [], rank_test-true zero_lengths [] (3 ∷ 2 ∷ 1 ∷ 4 ∷ []) refl, refl);
   front = front_test-true zero_lengths [] before_fifth refl;
   children =
       let none = no_children zero_lengths before_fifth in

@@ -16,4 +16,5 @@ pub mod TreeLemmas
 pub mod ChildLemmas
 pub mod LogLemmas
 pub mod Tests
+pub mod TreeTests
 pub mod ExampleLemmas

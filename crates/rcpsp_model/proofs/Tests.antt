@@ -1,7 +1,7 @@
 -- Tests that compute the definitions on a project that is given, and what they show.
-use Rattle.std.proofs.Common.{◌≡◌, ℕ, zero, suc, ◌+◌, ◌-◌, ◌<◌, ◌≤◌, inl, inr, arith, sym, ap, subst, ◌∙◌, List, [], ◌∷◌, length, Bool, true, false, eqb, leb, ltb, ◌&&◌, ◌||◌, not}
+use Rattle.std.proofs.Common.{◌≡◌, ℕ, zero, suc, ◌+◌, ◌-◌, ◌<◌, ◌≤◌, inl, inr, arith, refl, sym, ap, subst, ◌∙◌, List, [], ◌∷◌, length, Bool, true, false, eqb, leb, ltb, ◌&&◌, ◌||◌, not}
 use Rattle.std.specs.Prelude.{All, sum_by}
-use Rattle.std.proofs.lemmas.Bool.{and_parts, leb-true, ltb-true, eqb-true, cases_eq, or_cases, both_ways, false≢true, or_left}
+use Rattle.std.proofs.lemmas.Bool.{and_parts, and_from, leb-true, ltb-true, eqb-true, cases_eq, or_cases, both_ways, false≢true, or_left}
 use Rattle.rcpsp_model.specs.declared.parts.Entry.{Entry}
 use Rattle.rcpsp_model.specs.declared.parts.Mode.{Mode}
 use Rattle.rcpsp_model.specs.declared.parts.Placing.{Placing}
@@ -31,6 +31,10 @@ all_to-true f n h i low high =
     let one : (i - 1) + 1 ≡ i = omega arith in
     subst (λ (k : ℕ). f k ≡ true) one (all_below-true (λ k. f (k + 1)) n h (i - 1) (omega arith))
 
+pub all_below-from : (f : ℕ → Bool) (n : ℕ) → ((i : ℕ) → i < n → f i ≡ true) → all_below f n ≡ true
+all_below-from f zero h = refl
+all_below-from f (suc n) h = and_from (f n) (all_below f n) (h n (omega arith)) (all_below-from f n (λ i low. h i (omega arith)))
+
 -- all items pass
 abbrev pub every : {X : Type 0} → (X → Bool) → List X → Bool
 every p [] = true
@@ -50,6 +54,10 @@ implies a b = not a || b
 pub implies-true : (a b : Bool) → implies a b ≡ true → a ≡ true → b ≡ true
 implies-true true b h t = h
 implies-true false b h t = absurd (false≢true t)
+
+pub implies-from : (a b : Bool) → (a ≡ true → b ≡ true) → implies a b ≡ true
+implies-from true b h = h refl
+implies-from false b h = refl
 
 -- Limits.
 

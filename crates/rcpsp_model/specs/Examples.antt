@@ -8,7 +8,8 @@ use Rattle.rcpsp_model.specs.declared.parts.Placing.{Placing}
 use Rattle.rcpsp_model.specs.Project.{Activity, Project, IsProject}
 use Rattle.rcpsp_model.specs.Schedule.{IsFeasible}
 use Rattle.rcpsp_model.specs.Tree.{entry_at, IsFront, AreChildren}
-use Rattle.rcpsp_model.specs.Bounds.{IsTailBound}
+use Rattle.rcpsp_model.specs.Bounds.{IsTailBound, IsWorkBound}
+use Rattle.rcpsp_model.specs.Rank.{IsRank}
 use Rattle.rcpsp_model.specs.Dominance.{Dominates}
 
 -- a mode that uses one renewable resource, and one that needs a nonrenewable one too
@@ -44,7 +45,9 @@ pub record TwoInTurn : Type 0 where
   pub over_capacity : IsFeasible two_in_turn (at 1 0 ∷ at 1 0 ∷ at 1 0 ∷ at 1 3 ∷ []) → ⊥
   -- the last job before one that it waits for is done
   pub too_early : IsFeasible two_in_turn (at 1 0 ∷ at 1 0 ∷ at 1 3 ∷ at 1 4 ∷ []) → ⊥
+  -- after jobs 1 and 2, and at the start, where 10 units of work are left and 3 are there in each period
   pub tail_bound : IsTailBound two_in_turn (entry_at 1 1 0 ∷ entry_at 2 1 0 ∷ []) 3
+  pub work_bound : IsWorkBound two_in_turn [] 1 4
 
 -- Jobs 3, 2 and 1, in this order, take no time, and come before job 4. Job 5 stands alone.
 abbrev pub zero_lengths : Project
@@ -65,6 +68,8 @@ before_fifth = entry_at 3 1 0 ∷ entry_at 2 1 0 ∷ entry_at 1 1 0 ∷ entry_at
 pub record ZeroLengths : Type 0 where
   pub project : IsProject zero_lengths
   pub feasible : IsFeasible zero_lengths (at 1 0 ∷ at 1 0 ∷ at 1 0 ∷ at 1 0 ∷ at 1 3 ∷ [])
+  -- the order of precedence is 3, 2, 1, 4, 5
+  pub rank : IsRank zero_lengths 4 4
   pub front : IsFront zero_lengths before_fifth
   -- job 5 is its one child, at 3
   pub children : AreChildren zero_lengths before_fifth (Placed (before_fifth ++ entry_at 5 1 3 ∷ []) ∷ [])

@@ -12,7 +12,7 @@ use Rattle.rcpsp_model.specs.Tree.{last_start, IsFront, IsLeaf, InTurn, Complete
 use Rattle.rcpsp_model.specs.Bounds.{IsTailBound, IsWorkBound, IsLowerBound, rest_work}
 use Rattle.rcpsp_model.specs.Dominance.{Dominates}
 use Rattle.rcpsp_model.specs.Plan.{IsPlacedInTurn, IsFirstPlan}
-use Rattle.rcpsp_model.specs.Claim.{NoneIsFeasible}
+use Rattle.rcpsp_model.specs.Claim.{NoneIsFeasible, NoneEndsBefore}
 use Rattle.rcpsp_model.specs.Log.{IsClosedLog, EndsLate}
 
 -- What there is of a renewable resource in a period. The other laws know no more of `cap` and `calm` than this.
@@ -166,3 +166,9 @@ abbrev pub ClosedLogLaw : Type 0
 ClosedLogLaw =
     (P : Project) (d : ℕ) (expanded closed : List (List Entry)) → IsAcyclic P → IsClosedLog P d (Contains expanded) (Contains closed) →
     (F : List Entry) → Contains expanded F ⊎ Contains closed F → EndsLate P d F
+
+-- where the empty front is one of its lines, no feasible schedule ends before d
+abbrev pub ClosedRootLaw : Type 0
+ClosedRootLaw =
+    (P : Project) (d : ℕ) (expanded closed : List (List Entry)) → IsAcyclic P → IsClosedLog P d (Contains expanded) (Contains closed) →
+    Contains expanded [] ⊎ Contains closed [] → NoneEndsBefore P d
