@@ -15,3 +15,8 @@ pub mod PlanLemmas
 pub mod TreeLemmas
 pub mod ChildLemmas
 pub mod LogLemmas
+pub mod TailLemmas
+pub mod OnePlanLemmas
+pub mod Tests
+pub mod TreeTests
+pub mod ExampleLemmas

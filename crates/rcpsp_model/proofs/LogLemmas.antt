@@ -6,13 +6,14 @@ use Rattle.rcpsp_model.specs.Project.{Project, job_count, IsAcyclic}
 use Rattle.rcpsp_model.specs.Schedule.{end_of, entries}
 use Rattle.rcpsp_model.specs.Tree.{has_job, IsFront}
 use Rattle.rcpsp_model.specs.Log.{IsClosedAt, leaf, tail, work, lower, cutset, IsClosedLog, EndsLate}
-use Rattle.rcpsp_model.specs.Laws.{ClosedLogLaw}
+use Rattle.rcpsp_model.specs.Laws.{ClosedLogLaw, ClosedRootLaw}
 use Rattle.rcpsp_model.proofs.Lists.{total-same}
 use Rattle.rcpsp_model.proofs.Usage.{finish-le-end, end-le}
 use Rattle.rcpsp_model.proofs.ExchangeLemmas.{kept-In, exchange_law, front-distinct}
 use Rattle.rcpsp_model.proofs.BoundLemmas.{tail_law, lower_law}
 use Rattle.rcpsp_model.proofs.WorkLemmas.{work_law}
 use Rattle.rcpsp_model.proofs.DominanceLemmas.{dominance_law}
+use Rattle.rcpsp_model.proofs.TreeLemmas.{root_law}
 use Rattle.rcpsp_model.proofs.FrontLemmas.{length-front, part-jobs, each, named-in_turn}
 
 -- Fronts with the same jobs have one length.
@@ -64,3 +65,6 @@ closed-late P a d Expanded Closed log F l = late-from P a d Expanded Closed log 
 
 pub closed_log_law : ClosedLogLaw
 closed_log_law P d expanded closed a log F l = closed-late P a d (Contains expanded) (Contains closed) log F l
+
+pub closed_root_law : ClosedRootLaw
+closed_root_law P d expanded closed a log root s f = closed_log_law P d expanded closed a log [] root s (((root_law P).1 s).1 f)

@@ -68,7 +68,7 @@ numbers-range i zero k m = absurd m
 numbers-range i (suc n) k (inl e) = (omega arith, omega arith)
 numbers-range i (suc n) k (inr m) = let r = numbers-range (i + 1) n k m in (let a = r.0 in omega arith, let b = r.1 in omega arith)
 
-numbers-In : (i n k : ℕ) → i ≤ k → k < i + n → In (numbers_from i n) k
+pub numbers-In : (i n k : ℕ) → i ≤ k → k < i + n → In (numbers_from i n) k
 numbers-In i zero k a b = absurd (let c : k < i + 0 = b in omega arith)
 numbers-In i (suc n) k a b = elim (cases_eq i k) [ inl e ↦ inl e | inr ne ↦ inr (numbers-In (i + 1) n k (omega arith) (let c : k < i + suc n = b in omega arith)) ]
 

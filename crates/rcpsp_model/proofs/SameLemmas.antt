@@ -9,7 +9,7 @@ use Rattle.rcpsp_model.specs.declared.parts.Mode.{Mode}
 use Rattle.rcpsp_model.specs.Project.{Activity, Project, no_mode, no_activity, job_count, renewables, nonrenewables, modes_of, successors_of, mode_of, duration, request, need, capacity, budget, is_before, IsJob, IsMode, IsRenewable, IsNonrenewable, IsAscending, IsModeWithinLimits, IsActivityWithinLimits, IsWithinLimits, IsProject}
 use Rattle.rcpsp_model.specs.Laws.{SameFacts, SameFactsLaw}
 use Rattle.rcpsp_model.proofs.Lists.{In}
-use Rattle.rcpsp_model.proofs.Successors.{before-any}
+use Rattle.rcpsp_model.proofs.Successors.{any-In, before-any}
 use Rattle.rcpsp_model.proofs.FrontLemmas.{activity-within, mode-within}
 
 -- lists of one length with the same items, counted from 1
@@ -18,16 +18,12 @@ same-items {X = X} d xs ys n h = ext_get_or d xs ys n (λ i low.
     let one : (i + 1) - 1 ≡ i = omega arith in
     subst (λ (k : ℕ). get_or xs k d ≡ get_or ys k d) one (h (i + 1) (omega arith) (omega arith)))
 
--- an ascending list is known by its members
-any-In : (xs : List ℕ) (j : ℕ) → list_any (λ s. eqb s j) xs ≡ true → In xs j
-any-In [] j h = cc
-any-In (x ∷ xs) j h = elim (or_cases (eqb x j) (list_any (λ s. eqb s j) xs) h) [ inl e ↦ inl (eqb-true x j e) | inr r ↦ inr (any-In xs j r) ]
-
 In-any : (xs : List ℕ) (j : ℕ) → In xs j → list_any (λ s. eqb s j) xs ≡ true
 In-any [] j i = absurd i
 In-any (x ∷ xs) j (inl e) = or_left (eqb x j) (list_any (λ s. eqb s j) xs) (eq-eqb x j e)
 In-any (x ∷ xs) j (inr i) = or_right (eqb x j) (list_any (λ s. eqb s j) xs) (In-any xs j i)
 
+-- an ascending list is known by its members
 ascending-tail : (x : ℕ) (xs : List ℕ) → IsAscending (x ∷ xs) → IsAscending xs
 ascending-tail x [] a = tt
 ascending-tail x (y ∷ ys) a = a.1

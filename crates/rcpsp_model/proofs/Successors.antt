@@ -1,9 +1,14 @@
 -- Which jobs are before which, by their lists of successors.
-use Rattle.std.proofs.Common.{◌≡◌, ℕ, ◌-◌, ◌<◌, ◌≤◌, inl, inr, arith, ap, subst, length, get_or, Bool, true, eqb, leb, ◌&&◌}
+use Rattle.std.proofs.Common.{◌≡◌, ℕ, ◌-◌, ◌<◌, ◌≤◌, inl, inr, arith, refl, ap, subst, List, [], ◌∷◌, length, get_or, Bool, true, eqb, leb, ◌&&◌}
 use Rattle.std.specs.List.{list_any}
-use Rattle.std.proofs.lemmas.Bool.{cases_lt, and_parts, le-leb, leb-true, false≢true}
+use Rattle.std.proofs.lemmas.Bool.{cases_lt, or_cases, eqb-true, and_parts, le-leb, leb-true, false≢true}
 use Rattle.std.proofs.lemmas.List.{get_or_past}
+use Rattle.rcpsp_model.proofs.Lists.{In}
 use Rattle.rcpsp_model.specs.Project.{Activity, Project, no_activity, job_count, successors_of, is_before, Before}
+
+pub any-In : (xs : List ℕ) (j : ℕ) → list_any (λ s. eqb s j) xs ≡ true → In xs j
+any-In [] j h = cc
+any-In (x ∷ xs) j h = elim (or_cases (eqb x j) (list_any (λ s. eqb s j) xs) h) [ inl e ↦ inl (eqb-true x j e) | inr r ↦ inr (any-In xs j r) ]
 
 pub before-any : (P : Project) (i j : ℕ) → 1 ≤ i → is_before P i j ≡ list_any (λ s. eqb s j) (successors_of P i)
 unfolding is_before

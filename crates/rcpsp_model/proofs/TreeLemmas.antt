@@ -52,7 +52,7 @@ front-plan P a F f = record {
 }
 
 -- A list of placings is known by its entries.
-same-placings : (i : ℕ) (r s : List Placing) → length r ≡ length s → ((e : Entry) → In (entries_from i r) e → In (entries_from i s) e) → r ≡ s
+pub same-placings : (i : ℕ) (r s : List Placing) → length r ≡ length s → ((e : Entry) → In (entries_from i r) e → In (entries_from i s) e) → r ≡ s
 same-placings i [] [] n h = refl
 same-placings i [] (q ∷ qs) n h = absurd (omega (arith, n))
 same-placings i (p ∷ ps) [] n h = absurd (omega (arith, n))

@@ -1,5 +1,5 @@
 -- The laws, which hold of all projects, schedules and fronts. Each is the contract of a function, and so is proved.
-use Rattle.std.specs.Prelude.{◌≡◌, ℕ, ◌+◌, ◌-◌, ◌*◌, ◌/◌, ◌<◌, ◌≤◌, ◌↔◌, ◌⊎◌, min, Some, List, [], ◌∷◌, ◌++◌, length, Contains}
+use Rattle.std.specs.Prelude.{◌≡◌, Option, ℕ, ◌+◌, ◌-◌, ◌*◌, ◌/◌, ◌<◌, ◌≤◌, ◌↔◌, ◌⊎◌, min, Some, List, [], ◌∷◌, ◌++◌, length, Contains}
 use Rattle.rcpsp_model.specs.declared.parts.Child.{Child}
 use Rattle.rcpsp_model.specs.declared.parts.Child.TheVariants.{Placed}
 use Rattle.rcpsp_model.specs.declared.parts.Entry.{Entry}
@@ -11,8 +11,8 @@ use Rattle.rcpsp_model.specs.Modes.{IsExecutable}
 use Rattle.rcpsp_model.specs.Tree.{last_start, IsFront, IsLeaf, InTurn, Completes, HasGap, IsPlacedChild, AreChildren}
 use Rattle.rcpsp_model.specs.Bounds.{IsTailBound, IsWorkBound, IsLowerBound, rest_work}
 use Rattle.rcpsp_model.specs.Dominance.{Dominates}
-use Rattle.rcpsp_model.specs.Plan.{IsPlacedInTurn, IsFirstPlan}
-use Rattle.rcpsp_model.specs.Claim.{NoneIsFeasible}
+use Rattle.rcpsp_model.specs.Plan.{IsShortestMode, IsCheapestMode, IsPlacedInTurn, IsSerialPlan, IsFirstPlan}
+use Rattle.rcpsp_model.specs.Claim.{NoneIsFeasible, NoneEndsBefore}
 use Rattle.rcpsp_model.specs.Log.{IsClosedLog, EndsLate}
 
 -- What there is of a renewable resource in a period. The other laws know no more of `cap` and `calm` than this.
@@ -104,6 +104,10 @@ ChildrenLaw = (P : Project) (F : List Entry) (cs : List (Child (List Entry))) �
 abbrev pub TailLaw : Type 0
 TailLaw = (P : Project) (F : List Entry) (s : List Placing) (t : ℕ) → IsAcyclic P → Completes P F s → IsTailBound P F t → t ≤ end_of P (entries s)
 
+-- each job has a tail
+abbrev pub HasTailLaw : Type 0
+HasTailLaw = (P : Project) (j : ℕ) → IsAcyclic P → IsJob P j → (t : ℕ) × IsTail P j t
+
 -- no feasible schedule ends before the tail of a job
 abbrev pub JobTailLaw : Type 0
 JobTailLaw = (P : Project) (s : List Placing) (j t : ℕ) → IsAcyclic P → IsFeasible P s → IsJob P j → IsTail P j t → t ≤ end_of P (entries s)
@@ -151,6 +155,16 @@ PlanLaw =
     (P : Project) (placed : List Entry) (s : List Placing) → IsAcyclic P → InTurn (IsPlacedInTurn P) [] placed → IsLeaf P placed → KeepsBudgets P placed →
     length s ≡ job_count P → Agrees s placed → IsFeasible P s
 
+-- the serial scheme places the jobs in one way only, by either rule
+abbrev pub OnePlanLaw : Type 0
+OnePlanLaw =
+    (P : Project) (a b : List Entry) → IsAcyclic P →
+    (IsSerialPlan P IsShortestMode a → IsSerialPlan P IsShortestMode b → a ≡ b) × (IsSerialPlan P IsCheapestMode a → IsSerialPlan P IsCheapestMode b → a ≡ b)
+
+-- there is one first plan, or none
+abbrev pub OneFirstPlanLaw : Type 0
+OneFirstPlanLaw = (P : Project) (a b : Option (List Placing)) → IsAcyclic P → IsFirstPlan P a → IsFirstPlan P b → a ≡ b
+
 -- the first plan is feasible
 abbrev pub FirstPlanLaw : Type 0
 FirstPlanLaw = (P : Project) (s : List Placing) → IsAcyclic P → IsFirstPlan P (Some s) → IsFeasible P s
@@ -166,3 +180,9 @@ abbrev pub ClosedLogLaw : Type 0
 ClosedLogLaw =
     (P : Project) (d : ℕ) (expanded closed : List (List Entry)) → IsAcyclic P → IsClosedLog P d (Contains expanded) (Contains closed) →
     (F : List Entry) → Contains expanded F ⊎ Contains closed F → EndsLate P d F
+
+-- where the empty front is one of its lines, no feasible schedule ends before d
+abbrev pub ClosedRootLaw : Type 0
+ClosedRootLaw =
+    (P : Project) (d : ℕ) (expanded closed : List (List Entry)) → IsAcyclic P → IsClosedLog P d (Contains expanded) (Contains closed) →
+    Contains expanded [] ⊎ Contains closed [] → NoneEndsBefore P d

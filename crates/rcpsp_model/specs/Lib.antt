@@ -10,3 +10,4 @@ pub mod Plan
 pub mod Claim
 pub mod Log
 pub mod Laws
+pub mod Examples

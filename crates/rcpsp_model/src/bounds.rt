@@ -1,4 +1,4 @@
-ghost use Rattle.rcpsp_model.specs.Laws.{TailLaw, JobTailLaw, WorkLaw, QuotientLaw, LowerLaw, GapLaw};
+ghost use Rattle.rcpsp_model.specs.Laws.{TailLaw, HasTailLaw, JobTailLaw, WorkLaw, QuotientLaw, LowerLaw, GapLaw};
 
 /// What completes a front ends at its tail bound or later.
 #[tactic(auto, using(crate::proofs::BoundLemmas::tail_law))]
@@ -6,9 +6,10 @@ pub fn tail_bound()
     ensures { TailLaw }
 {}
 
-/// No feasible schedule ends before the tail of a job.
+/// Each job has a tail, and no feasible schedule ends before it.
 pub fn job_tail()
-    ensures { JobTailLaw }
+    ensures exists { HasTailLaw }
+    ensures bound { JobTailLaw }
 {}
 
 /// What completes a front ends at each of its work bounds or later.

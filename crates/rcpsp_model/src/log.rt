@@ -1,6 +1,8 @@
-ghost use Rattle.rcpsp_model.specs.Laws.{ClosedLogLaw};
+ghost use Rattle.rcpsp_model.specs.Laws.{ClosedLogLaw, ClosedRootLaw};
 
-/// Where a log is closed at d, whatever completes the front of one of its lines ends at d or later.
+/// Where a log is closed at d, whatever completes the front of one of its lines ends at d or later;
+/// and where the empty front is one, no feasible schedule ends before d.
 pub fn closed_log()
-    ensures { ClosedLogLaw }
+    ensures lines { ClosedLogLaw }
+    ensures root { ClosedRootLaw }
 {}

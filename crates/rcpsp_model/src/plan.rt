@@ -1,4 +1,4 @@
-ghost use Rattle.rcpsp_model.specs.Laws.{PlanLaw, FirstPlanLaw, NoModeLaw};
+ghost use Rattle.rcpsp_model.specs.Laws.{PlanLaw, OnePlanLaw, OneFirstPlanLaw, FirstPlanLaw, NoModeLaw};
 
 /// What places all jobs in turn, after their predecessors, within the capacities and the budgets, is feasible.
 #[tactic(auto, using(crate::proofs::PlanLemmas::plan_law))]
@@ -6,10 +6,16 @@ pub fn placed_in_turn()
     ensures { PlanLaw }
 {}
 
-/// The first plan is feasible.
-#[tactic(auto, using(crate::proofs::PlanLemmas::first_plan_law))]
+/// The serial scheme places the jobs in one way only, by either mode rule.
+pub fn serial_plan()
+    ensures { OnePlanLaw }
+{}
+
+/// There is one first plan, or none; and it is feasible.
+#[tactic(auto, using(crate::proofs::PlanLemmas::first_plan_law, crate::proofs::OnePlanLemmas::one_first_plan_law))]
 pub fn first_plan()
-    ensures { FirstPlanLaw }
+    ensures one { OneFirstPlanLaw }
+    ensures feasible { FirstPlanLaw }
 {}
 
 /// Where a job has no executable mode, no schedule is feasible.

@@ -1,5 +1,6 @@
 use Rattle.rcpsp_model.proofs.bounds.job_tail.Goals as goal
 use Rattle.rcpsp_model.proofs.BoundLemmas.{job_tail_law}
+use Rattle.rcpsp_model.proofs.TailLemmas.{has_tail_law}
 
 pub returns : goal.returns
-returns c = job_tail_law
+returns c = record { exists = has_tail_law; bound = job_tail_law }

@@ -1,0 +1,25 @@
+ghost use Rattle.rcpsp_model.specs.Examples.{TwoInTurn, ZeroLengths, ShortOrCheap, NeedsDiffer};
+
+/// A capacity, a precedence and a tail bound, where two jobs can't run side by side.
+#[tactic(auto, using(crate::proofs::ExampleLemmas::two_facts))]
+pub fn two_in_turn()
+    ensures { TwoInTurn }
+{}
+
+/// A front of jobs that take no time, and its one child.
+#[tactic(auto, using(crate::proofs::ExampleLemmas::zero_facts))]
+pub fn zero_lengths()
+    ensures { ZeroLengths }
+{}
+
+/// A budget that doesn't pay for every short mode.
+#[tactic(auto, using(crate::proofs::ExampleLemmas::short_facts))]
+pub fn short_or_cheap()
+    ensures { ShortOrCheap }
+{}
+
+/// Fronts that differ in what they need, of which one dominates another and one doesn't.
+#[tactic(auto, using(crate::proofs::ExampleLemmas::needs_facts))]
+pub fn needs_differ()
+    ensures { NeedsDiffer }
+{}
