@@ -1,2 +1,5 @@
 pub mod Draft
+pub mod Order
+pub mod Tails
 pub mod Flat
+pub mod Flatten

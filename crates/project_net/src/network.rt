@@ -1,7 +1,10 @@
 ghost use Rattle.std.specs.Prelude.{◌≡◌, ℕ, ◌+◌, ◌-◌, ◌≤◌, ◌<◌, length, slice_index, IfOk};
 
+use crate::draft::Draft;
+use crate::flatten::{first_places, mode_table, successor_sets, turned};
 use crate::mode_table::ModeTable;
-use sched_base::{Job, JobSet, List};
+use sched_base::{JobSet, List, NoMemory};
+use std::alloc::Global;
 use std::marker::Model;
 
 /// The jobs of a project with their modes and their order, and what there is of each resource: everything but what
@@ -40,6 +43,31 @@ fn mode_place(places: &[u16], job: u8, mode: u8) -> usize
 impl Network {
     ghost use Rattle.rcpsp_model.specs.Project.{IsWithinLimits, IsJob, IsMode, IsRenewable, IsNonrenewable, job_count, modes_of, renewables, nonrenewables, duration, request, need, capacity, budget, is_before};
     ghost use Rattle.sched_base.specs.JobSet.{member};
+    ghost use Rattle.project_net.specs.Draft.{IsWithinLimits as IsDraftWithinLimits, project_of};
+
+    /// The network that a draft describes.
+    pub fn of_draft(alloc: Global, draft: Draft) -> Result<Network, NoMemory>
+        requires { IsDraftWithinLimits draft }
+        ensures { IfOk result (λ n. n ≡ project_of draft) }
+    {
+        let Draft {
+            jobs,
+            capacities,
+            budgets,
+        } = draft;
+        let modes = mode_table(alloc, jobs.as_slice(), capacities.len(), budgets.len())?;
+        let places = first_places(alloc, jobs.as_slice())?;
+        let successors = successor_sets(alloc, jobs.as_slice())?;
+        let predecessors = turned(alloc, successors.as_slice())?;
+        Ok(Network {
+            modes,
+            places,
+            successors,
+            predecessors,
+            capacities,
+            budgets,
+        })
+    }
 
     /// What is known of every network; it does nothing.
     pub fn known(&self)
