@@ -4,4 +4,9 @@ pub mod NetworkLemmas
 pub mod FlattenLemmas
 pub mod Ranges
 pub mod DraftLemmas
+pub mod Pairs
+pub mod Via
+pub mod Cycles
+pub mod Sets
 pub mod Taken
+pub mod TailLemmas

@@ -3,3 +3,4 @@ pub mod Order
 pub mod Tails
 pub mod Flat
 pub mod Flatten
+pub mod Prepared

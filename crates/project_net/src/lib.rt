@@ -7,7 +7,12 @@ mod flatten;
 mod mode_table;
 mod network;
 mod order;
+mod project;
 mod reach;
+mod refusal;
+mod schedule;
 
 pub use draft::{BuildRefusal, Draft, DraftJob};
+pub use project::Project;
 pub use rcpsp_model::{Mode, Placing};
+pub use schedule::Schedule;

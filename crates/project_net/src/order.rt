@@ -33,6 +33,7 @@ pub fn jobs_in_order(alloc: Global, network: &Network) -> Result<Vec<u8>, NoMemo
     ensures lowest_first { IfOk result (λ order. IsLowestFirst network.now order.items) }
     ensures topological { IfOk result (λ order. IsTopological network.now order.items) }
 {
+    network.known();
     let mut order = Vec::new(alloc);
     let mut taken = JobSet::empty();
     while let Some(next) = lowest_free(network, taken) {
