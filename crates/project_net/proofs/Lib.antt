@@ -1,0 +1,12 @@
+pub mod FlatLemmas
+pub mod Limits
+pub mod NetworkLemmas
+pub mod FlattenLemmas
+pub mod Ranges
+pub mod DraftLemmas
+pub mod Pairs
+pub mod Via
+pub mod Cycles
+pub mod Sets
+pub mod Taken
+pub mod TailLemmas

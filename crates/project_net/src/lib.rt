@@ -1,0 +1,18 @@
+//! Projects: jobs with their modes and their order, what there is of each resource, and schedules of them.
+#![tactic(auto)]
+
+mod chains;
+mod draft;
+mod flatten;
+mod mode_table;
+mod network;
+mod order;
+mod project;
+mod reach;
+mod refusal;
+mod schedule;
+
+pub use draft::{BuildRefusal, Draft, DraftJob};
+pub use project::Project;
+pub use rcpsp_model::{Mode, Placing};
+pub use schedule::Schedule;

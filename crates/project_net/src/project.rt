@@ -1,0 +1,216 @@
+ghost use Rattle.std.specs.Prelude.{◌≡◌, ℕ, ◌≤◌, length, All, IfOk};
+
+use crate::chains::{least_durations, tails};
+use crate::draft::{BuildRefusal, Draft};
+use crate::network::Network;
+use crate::order::jobs_in_order;
+use crate::reach::lowest_on_cycle;
+use crate::refusal::first_refusal;
+use crate::schedule::Schedule;
+use sched_base::{JobSet, NoMemory};
+use std::alloc::Global;
+use std::marker::Model;
+
+/// A project: jobs with their modes, without a cycle in their order, and what there is of each resource.
+///
+/// Jobs, modes and resources count from 1.
+#[derive(Drop)]
+pub struct Project {
+    network: Network,
+    order: Vec<u8>,
+    least_durations: Vec<u32>,
+    tails: Vec<u32>,
+}
+
+impl Model for Project {
+    ghost use Rattle.rcpsp_model.specs.Project.{Project as ProjectValue};
+    ghost use Rattle.project_net.specs.Prepared.{IsPrepared};
+
+    ghost Value = { ProjectValue };
+
+    ghost view = { λ p. p.network };
+
+    ghost invariant = { λ p. IsPrepared p.network p.order.items p.least_durations.items p.tails.items };
+}
+
+impl Project {
+    ghost use Rattle.rcpsp_model.specs.Project.{IsProject, IsAcyclic, IsJob, IsMode, IsRenewable, IsNonrenewable, job_count, modes_of, renewables, nonrenewables, duration, request, need, capacity, budget, is_before};
+    ghost use Rattle.rcpsp_model.specs.Schedule.{end_of, entries};
+    ghost use Rattle.rcpsp_model.specs.Chain.{least_duration, IsTail};
+    ghost use Rattle.sched_base.specs.JobSet.{member};
+    ghost use Rattle.project_net.specs.Draft.{IsWithinLimits as IsDraftWithinLimits, project_of};
+
+    /// The project of a network without a cycle.
+    fn prepare(alloc: Global, network: Network) -> Result<Project, NoMemory>
+        requires { IsAcyclic network }
+        ensures { IfOk result (λ p. p ≡ network) }
+    {
+        network.known();
+        let order = jobs_in_order(alloc, &network)?;
+        let durations = least_durations(alloc, &network)?;
+        let tails = tails(alloc, &network, order.as_slice(), durations.as_slice())?;
+        Ok(Project {
+            network,
+            order,
+            least_durations: durations,
+            tails,
+        })
+    }
+
+    /// The project that a draft describes, or the first of its faults.
+    pub fn build(alloc: Global, draft: Draft) -> Result<Project, BuildRefusal>
+        ensures ok { IfOk result (λ p. p ≡ project_of draft) }
+    {
+        if let Some(refusal) = first_refusal(&draft) {
+            return Err(refusal);
+        }
+        let network = Network::of_draft(alloc, draft)?;
+        match lowest_on_cycle(alloc, &network)? {
+            Some(job) => Err(BuildRefusal::Cycle { job }),
+            None => Ok(Project::prepare(alloc, network)?),
+        }
+    }
+
+    /// What is known of every project; it does nothing.
+    pub fn known(&self)
+        ensures { IsProject self.now }
+    {
+        let _ = &self.tails;
+    }
+
+    /// The number of jobs, 1 to 128.
+    pub fn jobs(&self) -> u8
+        ensures value { result ≡ job_count self.now }
+        ensures some { 1 ≤ result }
+        ensures few { result ≤ 128 }
+    {
+        self.network.jobs()
+    }
+
+    /// The number of renewable resources, 0 to 16.
+    pub fn renewables(&self) -> u8
+        ensures value { result ≡ renewables self.now }
+        ensures few { result ≤ 16 }
+    {
+        self.network.renewables()
+    }
+
+    /// The number of nonrenewable resources, 0 to 16.
+    pub fn nonrenewables(&self) -> u8
+        ensures value { result ≡ nonrenewables self.now }
+        ensures few { result ≤ 16 }
+    {
+        self.network.nonrenewables()
+    }
+
+    /// The number of modes of a job, 1 to 16.
+    pub fn modes(&self, job: u8) -> u8
+        requires { IsJob self.now job }
+        ensures value { result ≡ length (modes_of self.now job) }
+        ensures some { 1 ≤ result }
+        ensures few { result ≤ 16 }
+    {
+        self.network.modes(job)
+    }
+
+    /// The periods that a job runs in a mode, 0 to 10,000.
+    pub fn duration(&self, job: u8, mode: u8) -> u32
+        requires job { IsJob self.now job }
+        requires mode { IsMode self.now job mode }
+        ensures value { result ≡ duration self.now job mode }
+        ensures limit { result ≤ 10000 }
+    {
+        self.network.duration(job, mode)
+    }
+
+    /// What a job in a mode asks of a renewable resource in each of its periods, 0 to 1,000,000.
+    pub fn request(&self, job: u8, mode: u8, resource: u8) -> u32
+        requires job { IsJob self.now job }
+        requires mode { IsMode self.now job mode }
+        requires resource { IsRenewable self.now resource }
+        ensures value { result ≡ request self.now job mode resource }
+        ensures limit { result ≤ 1000000 }
+    {
+        self.network.request(job, mode, resource)
+    }
+
+    /// What a job in a mode needs of a nonrenewable resource in all, 0 to 1,000,000.
+    pub fn need(&self, job: u8, mode: u8, resource: u8) -> u32
+        requires job { IsJob self.now job }
+        requires mode { IsMode self.now job mode }
+        requires resource { IsNonrenewable self.now resource }
+        ensures value { result ≡ need self.now job mode resource }
+        ensures limit { result ≤ 1000000 }
+    {
+        self.network.need(job, mode, resource)
+    }
+
+    /// What there is of a renewable resource in each period, 0 to 1,000,000.
+    pub fn capacity(&self, resource: u8) -> u32
+        requires { IsRenewable self.now resource }
+        ensures value { result ≡ capacity self.now resource }
+        ensures limit { result ≤ 1000000 }
+    {
+        self.network.capacity(resource)
+    }
+
+    /// What there is of a nonrenewable resource in all, 0 to 1,000,000.
+    pub fn budget(&self, resource: u8) -> u32
+        requires { IsNonrenewable self.now resource }
+        ensures value { result ≡ budget self.now resource }
+        ensures limit { result ≤ 1000000 }
+    {
+        self.network.budget(resource)
+    }
+
+    /// The direct predecessors of a job.
+    pub fn preds(&self, job: u8) -> JobSet
+        requires { IsJob self.now job }
+        ensures { (i : ℕ) → 1 ≤ i → member result i ≡ is_before self.now i job }
+    {
+        self.network.preds(job)
+    }
+
+    /// The direct successors of a job.
+    pub fn succs(&self, job: u8) -> JobSet
+        requires { IsJob self.now job }
+        ensures { (j : ℕ) → 1 ≤ j → member result j ≡ is_before self.now job j }
+    {
+        self.network.succs(job)
+    }
+
+    /// The least duration over the modes of a job, 0 to 10,000.
+    pub fn least_duration(&self, job: u8) -> u32
+        requires { IsJob self.now job }
+        ensures value { result ≡ least_duration self.now job }
+        ensures limit { result ≤ 10000 }
+    {
+        self.least_durations[job as usize - 1]
+    }
+
+    /// The greatest sum of least durations over the chains of successors that begin with a job, that job included: 0 to
+    /// 1,280,000.
+    pub fn tail(&self, job: u8) -> u32
+        requires { IsJob self.now job }
+        ensures value { IsTail self.now job result }
+        ensures limit { result ≤ 1280000 }
+    {
+        self.tails[job as usize - 1]
+    }
+
+    /// The greatest finish of a schedule.
+    pub fn end(&self, schedule: &Schedule) -> u32
+        requires whole { length schedule.now ≡ job_count self.now }
+        requires modes { All (λ e. IsMode self.now e.job e.mode) (entries schedule.now) }
+        requires starts { All (λ p. p.start ≤ 999999999) schedule.now }
+        ensures value { result ≡ end_of self.now (entries schedule.now) }
+        ensures limit { result ≤ 1000009999 }
+    {
+        let mut end = 0;
+        for done in 0..self.jobs() {
+            let place = schedule.place(done + 1);
+            end = end.max(place.start + self.duration(done + 1, place.mode));
+        }
+        end
+    }
+}
