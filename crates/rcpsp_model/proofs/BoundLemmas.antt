@@ -14,7 +14,7 @@ use Rattle.rcpsp_model.proofs.Lists.{In, In-filter, In-from_Contains, In-All, to
 use Rattle.rcpsp_model.proofs.Entries.{entry_at}
 use Rattle.rcpsp_model.proofs.ModeLemmas.{least_over-le}
 use Rattle.rcpsp_model.proofs.Usage.{finish-le-end, end-le}
-use Rattle.rcpsp_model.proofs.ExchangeLemmas.{kept-In, precedes, completed-budgets, front-distinct}
+use Rattle.rcpsp_model.proofs.CompletesLemmas.{kept-In, precedes, completed-budgets, front-distinct}
 use Rattle.rcpsp_model.proofs.WorkLemmas.{work_law}
 
 pub least_duration-le : (P : Project) (j m : ℕ) → IsMode P j m → least_duration P j ≤ duration P j m
