@@ -11,12 +11,11 @@ use Rattle.rcpsp_model.specs.declared.parts.Shut.{Shut as Why}
 use Rattle.rcpsp_model.specs.declared.parts.Shut.TheVariants.{NoCapacity, NoBudget, Inefficient}
 use Rattle.rcpsp_model.specs.Project.{Project, job_count, jobs, modes_of, need, request, capacity, budget, duration, is_before, Before, IsMode}
 use Rattle.rcpsp_model.specs.Schedule.{finish, used, end_of, calm}
-use Rattle.rcpsp_model.specs.Chain.{IsLeast}
 use Rattle.rcpsp_model.specs.Modes.{least_need, LacksCapacity, IsExecutable, IsInefficientBy, IsEfficient}
 use Rattle.rcpsp_model.specs.Tree.{has_job, CanStart, IsEligible, IsFront, rest_need, HasGap, LeavesBudgets, entry_at, extended, IsShut, IsPlacedChild, IsChild, ByMode, ByJob, ByJobs}
 use Rattle.rcpsp_model.specs.Laws.{ChildrenLaw, OneListLaw}
 use Rattle.rcpsp_model.proofs.Lists.{In, In-push, In-append, In-from_Contains, All-from_In, total-same, sum_by-filter}
-use Rattle.rcpsp_model.proofs.Numbers.{Decided, le_decided, lt_decided, below_decided, least_below, least_of}
+use Rattle.rcpsp_model.proofs.Numbers.{least-one, Decided, le_decided, lt_decided, below_decided, least_below, least_of}
 use Rattle.rcpsp_model.proofs.Usage.{finish-le-end, can_start_decided, both_decided, implies_decided}
 use Rattle.rcpsp_model.proofs.ModeLemmas.{inefficient_decided, renewable_decided, nonrenewable_decided}
 use Rattle.rcpsp_model.proofs.Successors.{before-job}
@@ -118,10 +117,6 @@ children_law P F cs f are = record {
       let r = in_jobs P F (job_count P) e.job e.mode cs are el.job.0 el.job.1 el p.follows.mode in
       subst (Contains cs) (child-placed P F e r.0 p r.2) r.1;
 }
-
--- A least number is one.
-pub least-one : (Q : ℕ → Type 0) (a b : ℕ) → IsLeast Q a → IsLeast Q b → a ≡ b
-least-one Q a b p q = let up = p.least b q.attained in let down = q.least a p.attained in omega arith
 
 executable-capacity : (P : Project) (j m k : ℕ) → IsExecutable P j m → LacksCapacity P j m k → ⊥
 executable-capacity P j m k can lack = let enough = can lack.takes_time k lack.renewable in let lacks = lack.lacks in omega arith

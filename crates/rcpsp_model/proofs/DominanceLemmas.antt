@@ -1,3 +1,4 @@
+-- A schedule that completes the dominated front, with the placings of the dominating one put in, completes that one.
 use Rattle.std.proofs.Common.{◌≡◌, ℕ, suc, ◌+◌, ◌<◌, ◌≤◌, ◌⊎◌, inl, inr, arith, refl, sym, ap, subst, ◌∙◌, List, [], ◌∷◌, ◌++◌, length, append_assoc, Bool, true, false, cond, eqb, ◌||◌}
 use Rattle.std.specs.Prelude.{All, Contains}
 use Rattle.std.proofs.lemmas.Bool.{cases_lt, cases_Bool, both_ways, or_parts, eqb-true}

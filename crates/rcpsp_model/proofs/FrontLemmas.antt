@@ -1,3 +1,4 @@
+-- What a front keeps from entry to entry, and how far it reaches.
 use Rattle.std.proofs.Common.{◌≡◌, ℕ, ◌+◌, ◌*◌, ◌-◌, ◌≤◌, max, inl, inr, arith, refl, sym, ap, subst, List, [], ◌∷◌, ◌++◌, length, length-append, get_or, append_assoc, Bool, true, false, cond, eqb, ◌||◌, replicate}
 use Rattle.std.specs.Prelude.{fold, filter}
 use Rattle.std.proofs.lemmas.Bool.{cases_lt}

@@ -1,3 +1,4 @@
+-- What is placed in turn, within the capacities and the budgets, is a feasible schedule.
 use Rattle.std.proofs.Common.{◌≡◌, ℕ, inl, inr, arith, ap, subst, List, [], ◌∷◌, ◌++◌, length, Bool, cond}
 use Rattle.std.specs.Prelude.{Contains}
 use Rattle.rcpsp_model.specs.declared.parts.Entry.{Entry}
