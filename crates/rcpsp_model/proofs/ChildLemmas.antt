@@ -1,7 +1,7 @@
 -- The children of a front: each eligible job and mode has one, and their list is one.
-use Rattle.std.proofs.Common.{◌≡◌, ℕ, zero, suc, ◌+◌, ◌<◌, ◌≤◌, max, ◌⊎◌, inl, inr, arith, refl, sym, ap, subst, ◌∙◌, List, [], ◌∷◌, ◌++◌, length, Bool, true, false, cond, eqb, ◌||◌, not, get_or}
-use Rattle.std.specs.Prelude.{All, Contains, sum_by}
-use Rattle.std.proofs.lemmas.Bool.{both_ways, cases_eq, cases_lt, cases_Bool, and_parts}
+use Rattle.std.proofs.Common.{◌≡◌, ℕ, zero, suc, ◌+◌, ◌≤◌, max, inl, inr, arith, refl, sym, ap, subst, ◌∙◌, List, [], ◌∷◌, ◌++◌, length, Bool, true, false, cond, eqb, ◌||◌, not}
+use Rattle.std.specs.Prelude.{Contains}
+use Rattle.std.proofs.lemmas.Bool.{both_ways, cases_eq, cases_lt, cases_Bool}
 use Rattle.std.proofs.lemmas.List.Sums.{sum_by_push}
 use Rattle.std.proofs.lemmas.List.Elements.{Contains-push, Contains-append_left, Contains-append_right}
 use Rattle.rcpsp_model.specs.declared.parts.Child.{Child}
@@ -9,14 +9,13 @@ use Rattle.rcpsp_model.specs.declared.parts.Child.TheVariants.{Placed, Shut}
 use Rattle.rcpsp_model.specs.declared.parts.Entry.{Entry}
 use Rattle.rcpsp_model.specs.declared.parts.Shut.{Shut as Why}
 use Rattle.rcpsp_model.specs.declared.parts.Shut.TheVariants.{NoCapacity, NoBudget, Inefficient}
-use Rattle.rcpsp_model.specs.Project.{Project, job_count, jobs, modes_of, need, request, capacity, budget, duration, is_before, Before, IsJob, IsMode, IsRenewable, IsNonrenewable}
+use Rattle.rcpsp_model.specs.Project.{Project, job_count, jobs, modes_of, need, request, capacity, budget, duration, is_before, Before, IsMode}
 use Rattle.rcpsp_model.specs.Schedule.{finish, used, end_of, calm}
-use Rattle.rcpsp_model.specs.Chain.{IsLeast}
 use Rattle.rcpsp_model.specs.Modes.{least_need, LacksCapacity, IsExecutable, IsInefficientBy, IsEfficient}
-use Rattle.rcpsp_model.specs.Tree.{has_job, last_start, CanStart, IsEligible, Follows, IsFront, rest_need, HasGap, LeavesBudgets, entry_at, extended, IsShut, IsPlacedChild, IsChild, ByMode, ByJob, ByJobs, AreChildren}
-use Rattle.rcpsp_model.specs.Laws.{ListsChildren, ChildrenLaw, OneList, OneListLaw}
-use Rattle.rcpsp_model.proofs.Lists.{In, In-push, In-append, In-from_Contains, All-from_In, total, total-same, sum_by-filter}
-use Rattle.rcpsp_model.proofs.Numbers.{Decided, le_decided, lt_decided, below_decided, least_below, least_of}
+use Rattle.rcpsp_model.specs.Tree.{has_job, CanStart, IsEligible, IsFront, rest_need, HasGap, LeavesBudgets, entry_at, extended, IsShut, IsPlacedChild, IsChild, ByMode, ByJob, ByJobs}
+use Rattle.rcpsp_model.specs.Laws.{ChildrenLaw, OneListLaw}
+use Rattle.rcpsp_model.proofs.Lists.{In, In-push, In-append, In-from_Contains, All-from_In, total-same, sum_by-filter}
+use Rattle.rcpsp_model.proofs.Numbers.{least-one, Decided, le_decided, lt_decided, below_decided, least_below, least_of}
 use Rattle.rcpsp_model.proofs.Usage.{finish-le-end, can_start_decided, both_decided, implies_decided}
 use Rattle.rcpsp_model.proofs.ModeLemmas.{inefficient_decided, renewable_decided, nonrenewable_decided}
 use Rattle.rcpsp_model.proofs.Successors.{before-job}
@@ -119,10 +118,6 @@ children_law P F cs f are = record {
       subst (Contains cs) (child-placed P F e r.0 p r.2) r.1;
 }
 
--- A least number is one.
-pub least-one : (Q : ℕ → Type 0) (a b : ℕ) → IsLeast Q a → IsLeast Q b → a ≡ b
-least-one Q a b p q = let up = p.least b q.attained in let down = q.least a p.attained in omega arith
-
 executable-capacity : (P : Project) (j m k : ℕ) → IsExecutable P j m → LacksCapacity P j m k → ⊥
 executable-capacity P j m k can lack = let enough = can lack.takes_time k lack.renewable in let lacks = lack.lacks in omega arith
 
@@ -175,13 +170,19 @@ placed-child : (P : Project) (F : List Entry) (j m : ℕ) → IsEligible P F j �
 placed-child P F j m el mode can leaves efficient =
     let first = least_of (CanStart P F j m) (can_start_decided P F j m) (max (end_of P F) (calm P)) (can_start-past_end P F j m can) in
     let t = first.0 in
-    let budgets = leaves-start P F j m t leaves in
-    (Placed (F ++ entry_at j m t ∷ []), (t, refl, record {
-      follows = record { eligible = el; mode = mode; start = first.1; budgets = λ l r. let ok = budgets l r in omega arith };
-      executable = can;
-      budgets = budgets;
-      efficient = efficient;
-    }))
+    let budgets = leaves-start P F j m t leaves in (
+      Placed (F ++ entry_at j m t ∷ []),
+      (
+        t,
+        refl,
+        record {
+          follows = record { eligible = el; mode = mode; start = first.1; budgets = λ l r. let ok = budgets l r in omega arith };
+          executable = can;
+          budgets = budgets;
+          efficient = efficient;
+        },
+      ),
+    )
 
 -- An eligible job in one of its modes has a child.
 some_child : (P : Project) (F : List Entry) (j m : ℕ) → IsEligible P F j → IsMode P j m → (c : Child (List Entry)) × IsChild P F j m c

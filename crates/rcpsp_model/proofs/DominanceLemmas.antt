@@ -1,3 +1,4 @@
+-- A schedule that completes the dominated front, with the placings of the dominating one put in, completes that one.
 use Rattle.std.proofs.Common.{◌≡◌, ℕ, suc, ◌+◌, ◌<◌, ◌≤◌, ◌⊎◌, inl, inr, arith, refl, sym, ap, subst, ◌∙◌, List, [], ◌∷◌, ◌++◌, length, append_assoc, Bool, true, false, cond, eqb, ◌||◌}
 use Rattle.std.specs.Prelude.{All, Contains}
 use Rattle.std.proofs.lemmas.Bool.{cases_lt, cases_Bool, both_ways, or_parts, eqb-true}
@@ -12,7 +13,7 @@ use Rattle.rcpsp_model.specs.Laws.{Replaces, DominanceLaw}
 use Rattle.rcpsp_model.proofs.Lists.{In, In-push, In-from_Contains, Contains-from_In, All-from_In, In-All, total, total-same, total-zero, sum_by-total}
 use Rattle.rcpsp_model.proofs.Entries.{DistinctJobs, has_job-In, entry_of, same_entry, total-others, entries-distinct, entry_at, has_job-push_false, has_job-push_none}
 use Rattle.rcpsp_model.proofs.Usage.{load, usage-total, load-before, finish-le-end, end-le}
-use Rattle.rcpsp_model.proofs.ExchangeLemmas.{kept-In, precedes, front-distinct}
+use Rattle.rcpsp_model.proofs.CompletesLemmas.{kept-In, precedes, front-distinct}
 use Rattle.rcpsp_model.proofs.FrontLemmas.{front-keeps, named-in_turn}
 
 -- each predecessor is there, and done by the start

@@ -4,6 +4,9 @@ pub mod Entries
 pub mod Changed
 pub mod Usage
 pub mod ModeLemmas
+pub mod CompletesLemmas
+pub mod NextLemmas
+pub mod MovedLemmas
 pub mod ExchangeLemmas
 pub mod FrontLemmas
 pub mod Successors

@@ -9,7 +9,8 @@ use Rattle.rcpsp_model.specs.Log.{IsClosedAt, leaf, tail, work, lower, cutset, I
 use Rattle.rcpsp_model.specs.Laws.{ClosedLogLaw, ClosedRootLaw}
 use Rattle.rcpsp_model.proofs.Lists.{total-same}
 use Rattle.rcpsp_model.proofs.Usage.{finish-le-end, end-le}
-use Rattle.rcpsp_model.proofs.ExchangeLemmas.{kept-In, exchange_law, front-distinct}
+use Rattle.rcpsp_model.proofs.CompletesLemmas.{kept-In, front-distinct}
+use Rattle.rcpsp_model.proofs.ExchangeLemmas.{exchange_law}
 use Rattle.rcpsp_model.proofs.BoundLemmas.{tail_law, lower_law}
 use Rattle.rcpsp_model.proofs.WorkLemmas.{work_law}
 use Rattle.rcpsp_model.proofs.DominanceLemmas.{dominance_law}

@@ -1,3 +1,4 @@
+-- The least over the modes of a job, and an efficient mode in place of any.
 use Rattle.std.proofs.Common.{mul-suc, ◌≡◌, ℕ, zero, suc, ◌+◌, ◌*◌, ◌-◌, ◌<◌, ◌≤◌, ◌⊎◌, inl, inr, arith, refl, sym, ap, List, [], ◌∷◌, length, get_or, Bool, true, false, cond, not}
 use Rattle.std.specs.Prelude.{sum_by, slice_index}
 use Rattle.std.proofs.lemmas.Bool.{cases_eq}

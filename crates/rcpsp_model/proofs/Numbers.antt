@@ -1,3 +1,4 @@
+-- What is decided of each number is decided of all below a limit, and has a least number.
 use Rattle.std.proofs.Common.{◌≡◌, ℕ, zero, suc, ◌<◌, ◌≤◌, ◌⊎◌, inl, inr, arith, subst}
 use Rattle.std.proofs.lemmas.Bool.{cases_lt, cases_eq}
 use Rattle.rcpsp_model.specs.Chain.{IsLeast}
@@ -42,3 +43,7 @@ least_below Q dec (suc n) =
 pub least_of : (Q : ℕ → Type 0) → ((i : ℕ) → Decided (Q i)) → (n : ℕ) → Q n → (t : ℕ) × IsLeast Q t
 least_of Q dec n q =
     elim (least_below Q dec (suc n)) [ inl found ↦ (found.0, found.2) | inr none ↦ absurd (none n (omega arith) q) ]
+
+-- A least number is one.
+pub least-one : (Q : ℕ → Type 0) (a b : ℕ) → IsLeast Q a → IsLeast Q b → a ≡ b
+least-one Q a b p q = let up = p.least b q.attained in let down = q.least a p.attained in omega arith

@@ -1,3 +1,4 @@
+-- What is placed in turn, within the capacities and the budgets, is a feasible schedule.
 use Rattle.std.proofs.Common.{◌≡◌, ℕ, inl, inr, arith, ap, subst, List, [], ◌∷◌, ◌++◌, length, Bool, cond}
 use Rattle.std.specs.Prelude.{Contains}
 use Rattle.rcpsp_model.specs.declared.parts.Entry.{Entry}
@@ -11,7 +12,7 @@ use Rattle.rcpsp_model.specs.Laws.{PlanLaw, FirstPlanLaw, NoModeLaw}
 use Rattle.rcpsp_model.proofs.Lists.{In, In-push, In-from_Contains, All-from_In, In-All, total, total-zero, sum_by-total}
 use Rattle.rcpsp_model.proofs.Entries.{DistinctJobs, distinct-push, has_job-In, entry_of, same_entry, total-others, entries-distinct, entry_at, job-from, job-below}
 use Rattle.rcpsp_model.proofs.Usage.{load, usage-total}
-use Rattle.rcpsp_model.proofs.ExchangeLemmas.{feasible-executable}
+use Rattle.rcpsp_model.proofs.CompletesLemmas.{feasible-executable}
 use Rattle.rcpsp_model.proofs.FrontLemmas.{keeps-push, in_turn}
 use Rattle.rcpsp_model.proofs.DominanceLemmas.{IsSound, sound-push}
 

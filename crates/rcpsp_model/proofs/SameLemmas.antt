@@ -1,12 +1,10 @@
 -- A project is known by its facts.
-use Rattle.std.proofs.Common.{◌≡◌, ℕ, zero, suc, ◌+◌, ◌-◌, ◌<◌, ◌≤◌, ◌⊎◌, inl, inr, arith, refl, sym, ap, subst, ◌∙◌, List, [], ◌∷◌, length, get_or, Bool, true, false, eqb, ◌||◌, ◌&&◌}
-use Rattle.std.specs.Prelude.{All}
+use Rattle.std.proofs.Common.{◌≡◌, ℕ, ◌+◌, ◌-◌, ◌<◌, ◌≤◌, inl, inr, arith, refl, sym, ap, subst, ◌∙◌, List, [], ◌∷◌, length, get_or, true, eqb}
 use Rattle.std.specs.List.{list_any}
-use Rattle.std.proofs.lemmas.Bool.{le-leb, eqb-true, eq-eqb, or_cases, or_left, or_right}
+use Rattle.std.proofs.lemmas.Bool.{eq-eqb, or_left, or_right}
 use Rattle.std.proofs.lemmas.List.{ext_get_or}
-use Rattle.std.proofs.lemmas.List.Elements.{All-get_or}
 use Rattle.rcpsp_model.specs.declared.parts.Mode.{Mode}
-use Rattle.rcpsp_model.specs.Project.{Activity, Project, no_mode, no_activity, job_count, renewables, nonrenewables, modes_of, successors_of, mode_of, duration, request, need, capacity, budget, is_before, IsJob, IsMode, IsRenewable, IsNonrenewable, IsAscending, IsModeWithinLimits, IsActivityWithinLimits, IsWithinLimits, IsProject}
+use Rattle.rcpsp_model.specs.Project.{Activity, Project, no_mode, no_activity, job_count, modes_of, successors_of, mode_of, duration, request, need, capacity, budget, IsJob, IsMode, IsAscending, IsProject}
 use Rattle.rcpsp_model.specs.Laws.{SameFacts, SameFactsLaw}
 use Rattle.rcpsp_model.proofs.Lists.{In}
 use Rattle.rcpsp_model.proofs.Successors.{any-In, before-any}

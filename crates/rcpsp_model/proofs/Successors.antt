@@ -1,5 +1,5 @@
 -- Which jobs are before which, by their lists of successors.
-use Rattle.std.proofs.Common.{◌≡◌, ℕ, ◌-◌, ◌<◌, ◌≤◌, inl, inr, arith, refl, ap, subst, List, [], ◌∷◌, length, get_or, Bool, true, eqb, leb, ◌&&◌}
+use Rattle.std.proofs.Common.{◌≡◌, ℕ, ◌-◌, ◌≤◌, inl, inr, arith, ap, subst, List, [], ◌∷◌, length, get_or, Bool, true, eqb, leb, ◌&&◌}
 use Rattle.std.specs.List.{list_any}
 use Rattle.std.proofs.lemmas.Bool.{cases_lt, or_cases, eqb-true, and_parts, le-leb, leb-true, false≢true}
 use Rattle.std.proofs.lemmas.List.{get_or_past}

@@ -1,25 +1,20 @@
 -- The root, the leaves, and a longer front.
-use Rattle.std.proofs.Common.{◌≡◌, ℕ, zero, suc, ◌+◌, ◌≤◌, inl, inr, arith, refl, sym, ap, subst, ◌∙◌, List, [], ◌∷◌, ◌++◌, append_assoc, length, Bool, false, cond, eqb, ◌||◌, replicate, not}
+use Rattle.std.proofs.Common.{◌≡◌, ℕ, suc, ◌+◌, ◌≤◌, inl, inr, arith, refl, sym, ap, subst, ◌∙◌, List, [], ◌∷◌, ◌++◌, append_assoc, length, false, replicate}
 use Rattle.std.specs.Prelude.{Contains}
-use Rattle.std.proofs.lemmas.Bool.{both_ways, cases_eq}
+use Rattle.std.proofs.lemmas.Bool.{both_ways}
 use Rattle.std.proofs.lemmas.List.{append-nil, length-replicate}
-use Rattle.std.proofs.lemmas.List.Sums.{sum_by_push}
-use Rattle.std.proofs.lemmas.List.Elements.{All-nil, Contains-push, Contains-append_left, Contains-append_right}
-use Rattle.rcpsp_model.specs.declared.parts.Child.{Child}
-use Rattle.rcpsp_model.specs.declared.parts.Child.TheVariants.{Placed, Shut}
+use Rattle.std.proofs.lemmas.List.Elements.{All-nil}
 use Rattle.rcpsp_model.specs.declared.parts.Entry.{Entry}
 use Rattle.rcpsp_model.specs.declared.parts.Placing.{Placing}
-use Rattle.rcpsp_model.specs.declared.parts.Shut.TheVariants.{NoCapacity, NoBudget, Inefficient}
-use Rattle.rcpsp_model.specs.Project.{Project, job_count, jobs, modes_of, need, IsMode, IsAcyclic}
-use Rattle.rcpsp_model.specs.Schedule.{used, end_of, entries, entries_from, KeepsBudgets}
-use Rattle.rcpsp_model.specs.Modes.{least_need}
-use Rattle.rcpsp_model.specs.Tree.{has_job, last_start, IsEligible, Follows, InTurn, IsFront, rest_need, entry_at, IsPlacedChild, IsChild, ByMode, ByJob, ByJobs}
-use Rattle.rcpsp_model.specs.Laws.{FrontLaw, RootLaw, LeafLaw, ChildrenLaw}
-use Rattle.rcpsp_model.proofs.Lists.{In, In-push, In-append, In-from_Contains, Contains-from_In, All-from_In, total-same, sum_by-filter}
+use Rattle.rcpsp_model.specs.Project.{Project, job_count, IsAcyclic}
+use Rattle.rcpsp_model.specs.Schedule.{end_of, entries, entries_from, KeepsBudgets}
+use Rattle.rcpsp_model.specs.Tree.{has_job, last_start, Follows, InTurn, IsFront}
+use Rattle.rcpsp_model.specs.Laws.{FrontLaw, RootLaw, LeafLaw}
+use Rattle.rcpsp_model.proofs.Lists.{In, Contains-from_In, All-from_In}
 use Rattle.rcpsp_model.proofs.Entries.{has_job-In, job-from}
 use Rattle.rcpsp_model.proofs.Changed.{entry}
 use Rattle.rcpsp_model.proofs.Usage.{finish-le-end, end-le}
-use Rattle.rcpsp_model.proofs.ExchangeLemmas.{front-distinct, kept-In}
+use Rattle.rcpsp_model.proofs.CompletesLemmas.{front-distinct, kept-In}
 use Rattle.rcpsp_model.proofs.FrontLemmas.{in_turn, front-keeps, named-in_turn, spot, length-front, front-end_le}
 use Rattle.rcpsp_model.proofs.DominanceLemmas.{front-sound, merged, length-merged, merged-In}
 use Rattle.rcpsp_model.proofs.PlanLemmas.{IsPlan, plan-feasible, plan-entries}

@@ -1,3 +1,4 @@
+-- What entries take of a renewable resource in a period, as a sum of loads; and where a job can start.
 use Rattle.std.proofs.Common.{◌≡◌, ℕ, ◌+◌, ◌<◌, ◌≤◌, inl, inr, arith, refl, ap, subst, List, [], ◌∷◌, length, Bool, true, cond, ltb, leb}
 use Rattle.std.proofs.lemmas.Bool.{and_from, and_left, and_right, le-leb, lt-leb, lt-ltb, le-ltb, cases_Bool, both_ways}
 use Rattle.rcpsp_model.specs.declared.parts.Entry.{Entry}
