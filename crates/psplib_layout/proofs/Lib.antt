@@ -1,2 +1,3 @@
 pub mod Capped
 pub mod Places
+pub mod Keys

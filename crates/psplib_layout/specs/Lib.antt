@@ -1,4 +1,5 @@
 pub mod Rule
 pub mod Wanted
 pub mod Reading
+pub mod Title
 pub mod Place

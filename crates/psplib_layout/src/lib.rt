@@ -6,6 +6,7 @@ mod numbers;
 mod place;
 mod rule;
 mod source;
+mod title;
 
 pub use fault::{Fault, ReadError, Refusal};
 pub use numbers::{CAP, number};
