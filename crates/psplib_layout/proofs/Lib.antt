@@ -1,3 +1,11 @@
 pub mod Capped
 pub mod Places
 pub mod Keys
+pub mod Steps
+pub mod Taking
+pub mod Faults
+pub mod Whole
+pub mod Stand
+pub mod RowLemmas
+pub mod Titles
+pub mod HeaderLemmas
