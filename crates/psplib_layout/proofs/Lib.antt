@@ -9,3 +9,5 @@ pub mod Stand
 pub mod RowLemmas
 pub mod Titles
 pub mod HeaderLemmas
+pub mod RequestLemmas
+pub mod AmountLemmas

@@ -61,3 +61,37 @@ times_again (suc k) rule [] c e = absurd cc
 times_again (suc k) rule (n ∷ ns) c e =
     let len : length ns ≡ k = omega arith in
     (e.0, subst (λ (xs : List ℕ). Stands (times k rule >>= λ ms. give (n ∷ ms)) xs (n ∷ ns)) (append-nil ns) (Stands-both (times k rule) (λ ms. give (n ∷ ms)) ns [] ns (n ∷ ns) (times_again k rule ns len e.1) refl))
+
+-- ---- one, and then others
+
+pub record Cons {A : Type 0} (w : Wanted A) (others : A → Wanted (List A)) (numbers : List ℕ) (y : List A) : Type 0 where
+  pub front : List ℕ
+  pub back : List ℕ
+  pub value : A
+  pub values : List A
+  pub numbers_are : numbers ≡ front ++ back
+  pub first : Stands w front value
+  pub second : Stands (others value) back values
+  pub whole : value ∷ values ≡ y
+
+pub Stands-cons_parts : {A : Type 0} (w : Wanted A) (others : A → Wanted (List A)) (numbers : List ℕ) (y : List A) → Stands (w >>= λ x. others x >>= λ xs. give (x ∷ xs)) numbers y → Cons w others numbers y
+Stands-cons_parts {A} w others numbers y h =
+    let b = Stands-parts w (λ x. others x >>= λ xs. give (x ∷ xs)) numbers y h in
+    let c = Stands-parts (others b.value) (λ xs. give (b.value ∷ xs)) b.back y b.second in
+    let g = given (b.value ∷ c.value) c.back y c.second in
+    let back_is : b.back ≡ c.front = c.numbers_are ∙ ap (λ (ns : List ℕ). c.front ++ ns) g.0 ∙ append-nil c.front in
+    record {
+      front = b.front;
+      back = c.front;
+      value = b.value;
+      values = c.value;
+      numbers_are = b.numbers_are ∙ ap (λ (ns : List ℕ). b.front ++ ns) back_is;
+      first = b.first;
+      second = c.first;
+      whole = g.1;
+    }
+
+pub Stands-cons : {A : Type 0} (w : Wanted A) (others : A → Wanted (List A)) (xs ys : List ℕ) (x : A) (rest : List A) → Stands w xs x → Stands (others x) ys rest → Stands (w >>= λ x. others x >>= λ more. give (x ∷ more)) (xs ++ ys) (x ∷ rest)
+Stands-cons {A} w others xs ys x rest h k =
+    let tail : Stands (others x >>= λ more. give (x ∷ more)) (ys ++ []) (x ∷ rest) = Stands-both (others x) (λ more. give (x ∷ more)) ys [] rest (x ∷ rest) k refl in
+    Stands-both w (λ v. others v >>= λ more. give (v ∷ more)) xs ys x (x ∷ rest) h (subst (λ (ns : List ℕ). Stands (others x >>= λ more. give (x ∷ more)) ns (x ∷ rest)) (append-nil ys) tail)
