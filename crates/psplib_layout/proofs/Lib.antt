@@ -11,3 +11,5 @@ pub mod Titles
 pub mod HeaderLemmas
 pub mod RequestLemmas
 pub mod AmountLemmas
+pub mod LayoutLemmas
+pub mod TextLemmas

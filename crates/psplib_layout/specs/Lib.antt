@@ -8,5 +8,6 @@ pub mod Precedence
 pub mod Requests
 pub mod Availabilities
 pub mod Layout
+pub mod Text
 pub mod FirstFault
 pub mod Place
