@@ -13,3 +13,6 @@ pub mod RequestLemmas
 pub mod AmountLemmas
 pub mod LayoutLemmas
 pub mod TextLemmas
+pub mod Loops
+pub mod RowSteps
+pub mod ModeSteps

@@ -1,12 +1,9 @@
 -- The availabilities part: the capacities of the renewable resources, and the budgets of the nonrenewable ones.
 use Rattle.std.specs.Prelude.{◌≡◌, ℕ, ◌≤◌, List, length}
 use Rattle.std.specs.List.{AllByRecursion}
+pub use Rattle.psplib_layout.specs.declared.content.Amounts.{Amounts}
 use Rattle.psplib_layout.specs.Rule.{up_to}
 use Rattle.psplib_layout.specs.Wanted.{Wanted, give, ◌>>=◌, times}
-
-pub record Amounts : Type 0 where
-  pub capacities : List ℕ
-  pub budgets : List ℕ
 
 -- one for each resource, each at most 1,000,000
 pub record AreAmounts (renewables nonrenewables : ℕ) (amounts : Amounts) : Type 0 where

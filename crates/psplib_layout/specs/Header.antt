@@ -4,15 +4,11 @@ use Rattle.std.specs.List.{AllByRecursion}
 use Rattle.psplib_lex.specs.Line.{Line}
 use Rattle.psplib_lex.specs.Number.{number_of}
 use Rattle.psplib_layout.specs.declared.fault.Fault.TheVariants.{NotOneProject, DoublyConstrained}
+pub use Rattle.psplib_layout.specs.declared.content.Header.{Header}
 use Rattle.psplib_layout.specs.declared.fault.Refusal.{Refusal}
 use Rattle.psplib_layout.specs.Rule.{exactly, between, up_to}
 use Rattle.psplib_layout.specs.Reading.{◌>>=◌}
 use Rattle.psplib_layout.specs.Title.{has_title, header_value, titled, keyed, colon_line, skipped_to}
-
-pub record Header : Type 0 where
-  pub jobs : ℕ
-  pub renewables : ℕ
-  pub nonrenewables : ℕ
 
 -- ---- what the header is
 

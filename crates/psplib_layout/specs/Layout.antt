@@ -4,6 +4,7 @@ use Rattle.std.specs.List.{list_any}
 use Rattle.psplib_lex.specs.Line.{Line}
 use Rattle.rcpsp_model.specs.declared.parts.Mode.{Mode}
 use Rattle.rcpsp_model.specs.Project.{Project, Activity, numbers_from}
+pub use Rattle.psplib_layout.specs.declared.content.Content.{Content}
 use Rattle.psplib_layout.specs.declared.fault.Refusal.{Refusal}
 use Rattle.psplib_layout.specs.Reading.{◌>>=◌}
 use Rattle.psplib_layout.specs.Title.{titled, skipped_to, any_line, no_more}
@@ -60,14 +61,6 @@ pub record ReadsAvailabilities (header : Header) (lines : List Line) (amounts : 
   pub title_is : HasTitle (codes "RESOURCEAVAILABILITIES:") title
   pub listed : HasAmounts (has_no_resource header) behind amounts rest
   pub limits : AreAmounts header.renewables header.nonrenewables amounts
-
--- ---- what a text says
-
-pub record Content : Type 0 where
-  pub header : Header
-  pub rows : List JobRow
-  pub modes : List (List Mode)
-  pub amounts : Amounts
 
 -- the lines are the header and the three parts, and no more
 pub record ReadsLayout (lines : List Line) (content : Content) : Type 0 where

@@ -1,15 +1,11 @@
 -- The precedence part: a row for each job, with its number of modes and its successors.
 use Rattle.std.specs.Prelude.{◌≡◌, ℕ, zero, suc, ◌+◌, ◌-◌, ◌≤◌, min, List, [], ◌∷◌, ◌++◌, length, sum_by}
 use Rattle.std.specs.List.{AllByRecursion}
+pub use Rattle.psplib_layout.specs.declared.content.JobRow.{JobRow}
 use Rattle.psplib_layout.specs.declared.fault.Fault.TheVariants.{OutOfLimit, WrongJobNumber, NoModes, SuccessorOutOfRange}
 use Rattle.psplib_layout.specs.declared.rule.Rule.{Rule}
 use Rattle.psplib_layout.specs.Rule.{exactly, up_to}
 use Rattle.psplib_layout.specs.Wanted.{Wanted, give, ◌>>=◌, one, times}
-
--- a job's number of modes, and its successors as the text lists them
-pub record JobRow : Type 0 where
-  pub modes : ℕ
-  pub successors : List ℕ
 
 -- ---- what the part is
 
