@@ -1,12 +1,18 @@
 //! The layout of a project text: what each part is, and reading it word by word and line by line.
 #![tactic(auto)]
 
+mod content;
 mod fault;
+mod header;
+pub mod laws;
 mod numbers;
 mod place;
+mod precedence;
 mod rule;
 mod source;
+mod title;
 
+pub use content::{Amounts, Content, Header, JobRow};
 pub use fault::{Fault, ReadError, Refusal};
 pub use numbers::{CAP, number};
 pub use place::Place;

@@ -1,0 +1,46 @@
+-- Reading the modes of a job one by one.
+use Rattle.std.proofs.Common.{◌≡◌, ℕ, suc, ◌-◌, ◌+◌, ◌≤◌, ◌<◌, List, [], ◌∷◌, ◌++◌, Result, Ok, Err, refl, sym, ap, ◌∙◌, append_assoc, arith}
+use Rattle.psplib_lex.specs.Line.{Line}
+use Rattle.psplib_layout.specs.declared.fault.Refusal.{Refusal}
+use Rattle.psplib_layout.specs.declared.fault.ReadError.{ReadError}
+use Rattle.psplib_layout.specs.declared.fault.ReadError.TheVariants as errors
+use Rattle.psplib_layout.specs.declared.rule.Rule.{Rule}
+use Rattle.psplib_layout.specs.Wanted as wanted
+use Rattle.psplib_layout.specs.Wanted.{Wanted, give, number, times}
+use Rattle.psplib_layout.specs.Reading.{◌>>=◌, number_in, read_wanted}
+use Rattle.psplib_layout.specs.Place.{IsRefused}
+use Rattle.rcpsp_model.specs.declared.parts.Mode.{Mode}
+use Rattle.psplib_layout.specs.declared.fault.Fault.TheVariants.{WrongModeNumber}
+use Rattle.psplib_layout.specs.Rule.{exactly, up_to}
+use Rattle.psplib_layout.specs.Requests.{mode_row, mode_rows}
+use Rattle.psplib_layout.proofs.Loops.{read_wanted->>=, with_front, with_none_more, first_of, first_stops}
+
+pub mode_row_ends : (end renewables nonrenewables mode first duration : ℕ) (requests : List ℕ) (a b c d : List Line) → number_in end (exactly mode WrongModeNumber) a ≡ Ok (first, b) → number_in end (up_to 10000) b ≡ Ok (duration, c) → read_wanted end (times renewables (up_to 1000000)) c ≡ Ok (requests, d)
+    → read_wanted end (mode_row renewables nonrenewables mode) a ≡ (read_wanted end (times nonrenewables (up_to 1000000)) d >>= λ x. Ok (record { duration = duration; requests = requests; needs = x.0 }, x.1))
+unfolding mode_row
+mode_row_ends end renewables nonrenewables mode first duration requests a b c d h k l =
+    rw (h, k) (read_wanted->>= end (times renewables (up_to 1000000)) (λ rs. wanted.◌>>=◌ (times nonrenewables (up_to 1000000)) (λ ns. give (record { duration = duration; requests = rs; needs = ns }))) c ∙ rw l (read_wanted->>= end (times nonrenewables (up_to 1000000)) (λ ns. give (record { duration = duration; requests = requests; needs = ns })) d))
+
+pub mode_row_stops : (end renewables nonrenewables mode first duration : ℕ) (a b c : List Line) (f : Refusal) → number_in end (exactly mode WrongModeNumber) a ≡ Ok (first, b) → number_in end (up_to 10000) b ≡ Ok (duration, c) → read_wanted end (times renewables (up_to 1000000)) c ≡ Err f
+    → read_wanted end (mode_row renewables nonrenewables mode) a ≡ Err f
+unfolding mode_row
+mode_row_stops end renewables nonrenewables mode first duration a b c f h k l =
+    rw (h, k) (first_stops end (times renewables (up_to 1000000)) (λ rs. wanted.◌>>=◌ (times nonrenewables (up_to 1000000)) (λ ns. give (record { duration = duration; requests = rs; needs = ns }))) c f l)
+
+pub modes_from : (end count i renewables nonrenewables : ℕ) (lines after : List Line) (row : Mode) → i < count → read_wanted end (mode_row renewables nonrenewables (i + 1)) lines ≡ Ok (row, after) → read_wanted end (mode_rows (count - i) renewables nonrenewables (i + 1)) lines ≡ (read_wanted end (mode_rows (count - (i + 1)) renewables nonrenewables (i + 1 + 1)) after >>= λ x. Ok (row ∷ x.0, x.1))
+unfolding mode_rows
+modes_from end count i renewables nonrenewables lines after row lt h =
+    let k : count - i ≡ suc (count - (i + 1)) = omega arith in
+    rw k (first_of end (mode_row renewables nonrenewables (i + 1)) (λ r. mode_rows (count - (i + 1)) renewables nonrenewables (i + 1 + 1)) lines after row h)
+
+pub modes_from_stop : (end count i renewables nonrenewables : ℕ) (lines : List Line) (f : Refusal) → i < count → read_wanted end (mode_row renewables nonrenewables (i + 1)) lines ≡ Err f → read_wanted end (mode_rows (count - i) renewables nonrenewables (i + 1)) lines ≡ Err f
+unfolding mode_rows
+modes_from_stop end count i renewables nonrenewables lines f lt h =
+    let k : count - i ≡ suc (count - (i + 1)) = omega arith in
+    rw k (first_stops end (mode_row renewables nonrenewables (i + 1)) (λ r. wanted.◌>>=◌ (mode_rows (count - (i + 1)) renewables nonrenewables (i + 1 + 1)) (λ rs. give (r ∷ rs))) lines f h)
+
+pub modes_done : (end count i renewables nonrenewables : ℕ) (front : List Mode) (lines : List Line) (total : Result (List Mode × List Line) Refusal) → count ≤ i → with_front front (read_wanted end (mode_rows (count - i) renewables nonrenewables (i + 1)) lines) ≡ total → total ≡ Ok (front, lines)
+unfolding mode_rows
+modes_done end count i renewables nonrenewables front lines total le so_far =
+    let k : count - i ≡ 0 = omega arith in
+    sym so_far ∙ rw k (with_none_more front lines)
