@@ -1,7 +1,7 @@
 use Rattle.std.proofs.Common.{◌≡◌, map, drop, string_bytes}
 use Rattle.sched_base.specs.Outside.{text_under}
 use Rattle.sched_base.specs.Memory.{has_text}
-use Rattle.sched_base.proofs.mem_shelf.place_of.Given as goal
+use Rattle.sched_base.proofs.texts.place_of.Given as goal
 
 abbrev pub invariant-loop-place : goal.invariant-loop-place
 invariant-loop-place l =

@@ -1,7 +1,7 @@
 use Rattle.std.proofs.Common.{arith, ℕ, sym, ap, ◌∙◌, string_bytes, String, Vec, Global}
 use Rattle.std.specs.Str.{bytes_eq}
 use Rattle.sched_base.proofs.TextLemmas.{text_here, text_after}
-use Rattle.sched_base.proofs.mem_shelf.place_of.Goals as goal
+use Rattle.sched_base.proofs.texts.place_of.Goals as goal
 
 pub returns-then-eq-clause-has : goal.returns-then-eq-clause-has
 returns-then-eq-clause-has c =
