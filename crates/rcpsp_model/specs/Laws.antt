@@ -1,6 +1,5 @@
 -- The laws, which hold of all projects, schedules and fronts. Each is the contract of a function, and so is proved.
 use Rattle.std.specs.Prelude.{◌≡◌, Option, ℕ, ◌+◌, ◌-◌, ◌*◌, ◌/◌, ◌<◌, ◌≤◌, ◌↔◌, ◌⊎◌, min, Some, List, [], ◌∷◌, ◌++◌, length, Contains}
-use Rattle.rcpsp_model.specs.declared.parts.Child.{Child}
 use Rattle.rcpsp_model.specs.declared.parts.Child.TheVariants.{Placed}
 use Rattle.rcpsp_model.specs.declared.parts.Entry.{Entry}
 use Rattle.rcpsp_model.specs.declared.parts.Placing.{Placing}
@@ -8,7 +7,7 @@ use Rattle.rcpsp_model.specs.Project.{Project, job_count, duration, request, nee
 use Rattle.rcpsp_model.specs.Schedule.{end_of, entries, cap, calm, IsFeasible, KeepsBudgets, Agrees}
 use Rattle.rcpsp_model.specs.Chain.{IsTail}
 use Rattle.rcpsp_model.specs.Modes.{IsExecutable}
-use Rattle.rcpsp_model.specs.Tree.{last_start, IsFront, IsLeaf, InTurn, Completes, HasGap, IsPlacedChild, AreChildren}
+use Rattle.rcpsp_model.specs.Tree.{last_start, IsFront, IsLeaf, InTurn, Completes, HasGap, IsPlacedChild, Children, AreChildren}
 use Rattle.rcpsp_model.specs.Bounds.{IsTailBound, IsWorkBound, IsLowerBound, rest_work}
 use Rattle.rcpsp_model.specs.Dominance.{Dominates}
 use Rattle.rcpsp_model.specs.Plan.{IsShortestMode, IsCheapestMode, IsPlacedInTurn, IsSerialPlan, IsFirstPlan}
@@ -82,21 +81,21 @@ ExchangeLaw = (P : Project) (F : List Entry) (s : List Placing) → IsAcyclic P 
 
 -- a list of a front's children, and no other list
 pub record OneList (P : Project) (F : List Entry) : Type 0 where
-  pub children : List (Child (List Entry))
+  pub children : Children
   pub are : AreChildren P F children
-  pub only : (cs : List (Child (List Entry))) → AreChildren P F cs → cs ≡ children
+  pub only : (cs : Children) → AreChildren P F cs → cs ≡ children
 
 -- the children are known by the front: each eligible job has exactly one by each of its modes
 abbrev pub OneListLaw : Type 0
 OneListLaw = (P : Project) (F : List Entry) → OneList P F
 
 -- the placed among the children are fronts, and all placed children are among them
-pub record ListsChildren (P : Project) (F : List Entry) (cs : List (Child (List Entry))) : Type 0 where
+pub record ListsChildren (P : Project) (F : List Entry) (cs : Children) : Type 0 where
   pub fronts : (G : List Entry) → Contains cs (Placed G) → IsFront P G
   pub whole : (e : Entry) → IsPlacedChild P F e → Contains cs (Placed (F ++ e ∷ []))
 
 abbrev pub ChildrenLaw : Type 0
-ChildrenLaw = (P : Project) (F : List Entry) (cs : List (Child (List Entry))) → IsFront P F → AreChildren P F cs → ListsChildren P F cs
+ChildrenLaw = (P : Project) (F : List Entry) (cs : Children) → IsFront P F → AreChildren P F cs → ListsChildren P F cs
 
 -- Bounds.
 
