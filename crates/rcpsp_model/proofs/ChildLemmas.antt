@@ -13,13 +13,14 @@ use Rattle.rcpsp_model.specs.Project.{Project, job_count, jobs, modes_of, need, 
 use Rattle.rcpsp_model.specs.Schedule.{finish, used, end_of, calm}
 use Rattle.rcpsp_model.specs.Modes.{least_need, LacksCapacity, IsExecutable, IsInefficientBy, IsEfficient}
 use Rattle.rcpsp_model.specs.Tree.{has_job, CanStart, IsEligible, IsFront, rest_need, HasGap, LeavesBudgets, entry_at, extended, IsShut, IsPlacedChild, IsChild, ByMode, ByJob, ByJobs}
-use Rattle.rcpsp_model.specs.Laws.{ChildrenLaw, OneListLaw}
+use Rattle.rcpsp_model.specs.Laws.{ChildrenLaw, OneListLaw, ListExchangeLaw}
 use Rattle.rcpsp_model.proofs.Lists.{In, In-push, In-append, In-from_Contains, All-from_In, total-same, sum_by-filter}
 use Rattle.rcpsp_model.proofs.Numbers.{least-one, Decided, le_decided, lt_decided, below_decided, least_below, least_of}
 use Rattle.rcpsp_model.proofs.Usage.{finish-le-end, can_start_decided, both_decided, implies_decided}
 use Rattle.rcpsp_model.proofs.ModeLemmas.{inefficient_decided, renewable_decided, nonrenewable_decided}
 use Rattle.rcpsp_model.proofs.Successors.{before-job}
 use Rattle.rcpsp_model.proofs.FrontLemmas.{fits-past_end, last-le-end}
+use Rattle.rcpsp_model.proofs.ExchangeLemmas.{exchange_law}
 use Rattle.rcpsp_model.proofs.TreeLemmas.{front-push}
 
 -- The needs of an entry don't speak of its start.
@@ -117,6 +118,12 @@ children_law P F cs f are = record {
       let r = in_jobs P F (job_count P) e.job e.mode cs are el.job.0 el.job.1 el p.follows.mode in
       subst (Contains cs) (child-placed P F e r.0 p r.2) r.1;
 }
+
+pub list_exchange_law : ListExchangeLaw
+list_exchange_law P F cs a f are not_leaf s c =
+    let x = exchange_law P F s a f not_leaf c in
+    let listed = children_law P F cs f are in
+    record { child = F ++ x.entry ∷ []; placed = listed.whole x.entry x.child; better = x.better; completes = x.completes; no_later = x.no_later }
 
 executable-capacity : (P : Project) (j m k : ℕ) → IsExecutable P j m → LacksCapacity P j m k → ⊥
 executable-capacity P j m k can lack = let enough = can lack.takes_time k lack.renewable in let lacks = lack.lacks in omega arith

@@ -13,6 +13,8 @@ pub mod Successors
 pub mod SameLemmas
 pub mod BoundLemmas
 pub mod WorkLemmas
+pub mod Sound
+pub mod Merged
 pub mod DominanceLemmas
 pub mod PlanLemmas
 pub mod TreeLemmas

@@ -14,7 +14,7 @@ use Rattle.rcpsp_model.specs.Laws.{OnePlanLaw, OneFirstPlanLaw}
 use Rattle.rcpsp_model.proofs.Lists.{In, In-from_Contains, In-All}
 use Rattle.rcpsp_model.proofs.PlanLemmas.{plan-entries}
 use Rattle.rcpsp_model.proofs.TailLemmas.{has_tail_law}
-use Rattle.rcpsp_model.proofs.TreeLemmas.{same-placings}
+use Rattle.rcpsp_model.proofs.Merged.{same-placings}
 use Rattle.rcpsp_model.proofs.Numbers.{least-one}
 
 -- the rule gives a job one mode at most

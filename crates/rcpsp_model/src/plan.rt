@@ -1,7 +1,6 @@
 ghost use Rattle.rcpsp_model.specs.Laws.{PlanLaw, OnePlanLaw, OneFirstPlanLaw, FirstPlanLaw, NoModeLaw};
 
 /// What places all jobs in turn, after their predecessors, within the capacities and the budgets, is feasible.
-#[tactic(auto, using(crate::proofs::PlanLemmas::plan_law))]
 pub fn placed_in_turn()
     ensures { PlanLaw }
 {}
