@@ -36,6 +36,7 @@ impl SureShelf {
     {
         SureShelf { texts, hand: None }
     }
+
     /// What is left of the text in hand.
     fn left(&self) -> &[u8]
         ensures { result.now ≡ self.now.left }
