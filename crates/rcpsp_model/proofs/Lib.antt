@@ -21,6 +21,7 @@ pub mod TreeLemmas
 pub mod ChildLemmas
 pub mod LogLemmas
 pub mod TailLemmas
+pub mod RankLemmas
 pub mod OnePlanLemmas
 pub mod Tests
 pub mod TreeTests

@@ -58,13 +58,13 @@ sum_by-unplaced P F s g w =
     let d = total-same (λ (x : Entry). h x.job) (λ (x : Entry). cond (has_job F x.job) 0 (g x.job)) (entries s) (λ x i. cond-not (has_job F x.job) _) in
     omega arith
 
-total-lt : (f g : ℕ → ℕ) (xs : List ℕ) (x : ℕ) → ((y : ℕ) → In xs y → f y ≤ g y) → In xs x → f x < g x → total f xs < total g xs
+pub total-lt : (f g : ℕ → ℕ) (xs : List ℕ) (x : ℕ) → ((y : ℕ) → In xs y → f y ≤ g y) → In xs x → f x < g x → total f xs < total g xs
 total-lt f g [] x h i l = absurd i
 total-lt f g (y ∷ ys) x h (inl e) l =
     let rest = total-le f g ys (λ z j. h z (inr j)) in let a = ap f e in let b = ap g e in omega arith
 total-lt f g (y ∷ ys) x h (inr i) l = let ih = total-lt f g ys x (λ z j. h z (inr j)) i l in let here = h y (inl refl) in omega arith
 
-numbers-range : (i n k : ℕ) → In (numbers_from i n) k → (i ≤ k) × (k < i + n)
+pub numbers-range : (i n k : ℕ) → In (numbers_from i n) k → (i ≤ k) × (k < i + n)
 numbers-range i zero k m = absurd m
 numbers-range i (suc n) k (inl e) = (omega arith, omega arith)
 numbers-range i (suc n) k (inr m) = let r = numbers-range (i + 1) n k m in (let a = r.0 in omega arith, let b = r.1 in omega arith)

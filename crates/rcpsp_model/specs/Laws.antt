@@ -10,6 +10,7 @@ use Rattle.rcpsp_model.specs.Modes.{IsExecutable}
 use Rattle.rcpsp_model.specs.Tree.{last_start, IsFront, IsLeaf, InTurn, Completes, HasGap, IsPlacedChild, Children, AreChildren}
 use Rattle.rcpsp_model.specs.Bounds.{IsTailBound, IsWorkBound, IsLowerBound, rest_work}
 use Rattle.rcpsp_model.specs.Dominance.{Dominates}
+use Rattle.rcpsp_model.specs.Rank.{IsRank}
 use Rattle.rcpsp_model.specs.Plan.{IsShortestMode, IsCheapestMode, IsPlacedInTurn, IsSerialPlan, IsFirstPlan}
 use Rattle.rcpsp_model.specs.Claim.{NoneIsFeasible, NoneEndsBefore}
 use Rattle.rcpsp_model.specs.Log.{IsClosedLog, EndsLate}
@@ -45,6 +46,16 @@ pub record SameFacts (P Q : Project) : Type 0 where
 -- two projects with the same facts are equal
 abbrev pub SameFactsLaw : Type 0
 SameFactsLaw = (P Q : Project) → IsProject P → IsProject Q → SameFacts P Q → P ≡ Q
+
+-- a rank of a job, and no other one
+pub record OneRank (P : Project) (j : ℕ) : Type 0 where
+  pub rank : ℕ
+  pub is : IsRank P j rank
+  pub only : (r : ℕ) → IsRank P j r → r ≡ rank
+
+-- each job has exactly one rank
+abbrev pub RankLaw : Type 0
+RankLaw = (P : Project) (j : ℕ) → IsAcyclic P → IsJob P j → OneRank P j
 
 -- The tree loses nothing.
 
