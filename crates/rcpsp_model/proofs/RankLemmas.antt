@@ -6,8 +6,7 @@ use Rattle.rcpsp_model.specs.Tree.{InTurn}
 use Rattle.rcpsp_model.specs.Rank.{is_among, HasPredecessors, IsLowestFree, IsLowestFirst, IsRank}
 use Rattle.rcpsp_model.specs.Laws.{RankLaw}
 use Rattle.rcpsp_model.proofs.Lists.{In, In-push, total, IsFirst, first_failing}
-use Rattle.rcpsp_model.proofs.Numbers.{Decided, le_decided, below_decided, least_of}
-use Rattle.rcpsp_model.proofs.Usage.{both_decided, implies_decided}
+use Rattle.rcpsp_model.proofs.Numbers.{Decided, le_decided, below_decided, least_of, both_decided, implies_decided, true_decided, false_decided}
 use Rattle.rcpsp_model.proofs.Successors.{any-In, In-any, before-job}
 use Rattle.rcpsp_model.proofs.ModeLemmas.{numbers-In, numbers-range, total-lt}
 use Rattle.rcpsp_model.proofs.TreeLemmas.{in_turn-push}
@@ -64,16 +63,10 @@ IsFree P F j = IsJob P j × (is_among F j ≡ false) × HasPredecessors P (is_am
 
 free_decided : (P : Project) (F : List ℕ) (j : ℕ) → Decided (IsFree P F j)
 free_decided P F j =
-    elim (both_decided (both_decided (le_decided 1 j) (le_decided j (job_count P))) (both_decided (bool_false (is_among F j)) (below_decided (λ i. Before P i j → is_among F i ≡ true) (λ i. implies_decided (bool_true (is_before P i j)) (bool_true (is_among F i))) (job_count P + 1)))) [
+    elim (both_decided (both_decided (le_decided 1 j) (le_decided j (job_count P))) (both_decided (false_decided (is_among F j)) (below_decided (λ i. Before P i j → is_among F i ≡ true) (λ i. implies_decided (true_decided (is_before P i j)) (true_decided (is_among F i))) (job_count P + 1)))) [
       | inl h ↦ inl (h.0, h.1.0, λ i b. h.1.1 i (let r = before-job P i j b in let high = r.1 in omega arith) b)
       | inr no_ ↦ inr (λ e. no_ (e.0, (e.1, λ i _. e.2 i)))
     ]
-  where
-    bool_true : (b : Bool) → Decided (b ≡ true)
-    bool_true b = elim (cases_Bool b) [ inl y ↦ inl y | inr n ↦ inr (λ y. both_ways b n y) ]
-
-    bool_false : (b : Bool) → Decided (b ≡ false)
-    bool_false b = elim (cases_Bool b) [ inl y ↦ inr (λ n. both_ways b n y) | inr n ↦ inl n ]
 
 -- Where a job isn't taken, one is free: the one of the lowest number among those that rise along the pairs.
 some_free : (P : Project) → IsAcyclic P → (F : List ℕ) (j : ℕ) → IsJob P j → is_among F j ≡ false → (i : ℕ) × IsFree P F i
