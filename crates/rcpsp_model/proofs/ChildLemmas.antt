@@ -155,7 +155,7 @@ gap_decided P F l = elim (both_decided (nonrenewable_decided P l) (lt_decided (b
   | inr no_ ↦ inr (λ g. no_ (g.nonrenewable, g.exceeds))
 ]
 
-lack_decided : (P : Project) (j m k : ℕ) → Decided (LacksCapacity P j m k)
+pub lack_decided : (P : Project) (j m k : ℕ) → Decided (LacksCapacity P j m k)
 lack_decided P j m k = elim (both_decided (renewable_decided P k) (both_decided (lt_decided 0 (duration P j m)) (lt_decided (capacity P k) (request P j m k)))) [
   | inl h ↦ inl (record { renewable = h.0; takes_time = h.1.0; lacks = h.1.1 })
   | inr no_ ↦ inr (λ l. no_ (l.renewable, (l.takes_time, l.lacks)))
@@ -230,7 +230,7 @@ by_mode-one P F j (suc n) cs ds p q =
     let last = child-one P F j (suc n) p.1 q.1 p.4 q.4 in
     p.2 ∙ ap (λ (xs : List (Child (List Entry))). xs ++ p.1 ∷ []) before ∙ ap (λ (c : Child (List Entry)). q.0 ++ c ∷ []) last ∙ sym q.2
 
-eligible_decided : (P : Project) (F : List Entry) (j : ℕ) → Decided (IsEligible P F j)
+pub eligible_decided : (P : Project) (F : List Entry) (j : ℕ) → Decided (IsEligible P F j)
 eligible_decided P F j =
     elim (both_decided (both_decided (le_decided 1 j) (le_decided j (job_count P))) (both_decided (false_decided (has_job F j)) (below_decided (λ i. Before P i j → has_job F i ≡ true) (λ i. implies_decided (true_decided (is_before P i j)) (true_decided (has_job F i))) (job_count P + 1)))) [
       | inl h ↦ inl (record { job = h.0; unplaced = h.1.0; preds = λ i b. h.1.1 i (let r = before-job P i j b in let high = r.1 in omega arith) b })

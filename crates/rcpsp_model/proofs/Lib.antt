@@ -23,6 +23,7 @@ pub mod LogLemmas
 pub mod TailLemmas
 pub mod RankLemmas
 pub mod OnePlanLemmas
+pub mod SerialLemmas
 pub mod Tests
 pub mod TreeTests
 pub mod ExampleLemmas

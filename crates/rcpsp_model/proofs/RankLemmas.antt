@@ -5,7 +5,7 @@ use Rattle.rcpsp_model.specs.Project.{Project, job_count, jobs, is_before, Befor
 use Rattle.rcpsp_model.specs.Tree.{InTurn}
 use Rattle.rcpsp_model.specs.Rank.{is_among, HasPredecessors, IsLowestFree, IsLowestFirst, IsRank}
 use Rattle.rcpsp_model.specs.Laws.{RankLaw}
-use Rattle.rcpsp_model.proofs.Lists.{In, In-push, total, IsFirst, first_failing}
+use Rattle.rcpsp_model.proofs.Lists.{In-push_old, In-push_new, In-push, total, IsFirst, first_failing}
 use Rattle.rcpsp_model.proofs.Numbers.{Decided, le_decided, below_decided, least_of, both_decided, implies_decided, true_decided, false_decided}
 use Rattle.rcpsp_model.proofs.Successors.{any-In, In-any, before-job}
 use Rattle.rcpsp_model.proofs.ModeLemmas.{numbers-In, numbers-range, total-lt}
@@ -14,15 +14,6 @@ use Rattle.rcpsp_model.proofs.TreeLemmas.{in_turn-push}
 -- the job that comes next after those that are taken
 abbrev TakesLowest : Project → List ℕ → ℕ → Type 0
 TakesLowest P taken j = IsLowestFree P (is_among taken) j
-
-In-push_old : (F : List ℕ) (i j : ℕ) → In F j → In (F ++ i ∷ []) j
-In-push_old [] i j m = absurd m
-In-push_old (x ∷ F) i j (inl e) = inl e
-In-push_old (x ∷ F) i j (inr m) = inr (In-push_old F i j m)
-
-In-push_new : (F : List ℕ) (i : ℕ) → In (F ++ i ∷ []) i
-In-push_new [] i = inl refl
-In-push_new (x ∷ F) i = inr (In-push_new F i)
 
 among-push : (F : List ℕ) (i j : ℕ) → is_among F j ≡ true → is_among (F ++ i ∷ []) j ≡ true
 among-push F i j h = In-any (F ++ i ∷ []) j (In-push_old F i j (any-In F j h))
@@ -94,22 +85,22 @@ lowest_free P a F j job untaken =
     let own = least.1.attained in
     (least.0, record { job = own.0; untaken = own.1; preds = own.2; lowest = λ i job_i free preds. least.1.least i (job_i, free, preds) })
 
-abbrev one_unless : Bool → ℕ
+abbrev pub one_unless : Bool → ℕ
 one_unless b = cond b 0 1
 
 -- how many jobs aren't taken
 abbrev left : Project → List ℕ → ℕ
 left P F = total (λ i. one_unless (is_among F i)) (jobs P)
 
-untaken_one : (b : Bool) → one_unless b ≤ 1
+pub untaken_one : (b : Bool) → one_unless b ≤ 1
 untaken_one true = omega arith
 untaken_one false = omega arith
 
-untaken_none : (b : Bool) → b ≡ true → one_unless b ≡ 0
+pub untaken_none : (b : Bool) → b ≡ true → one_unless b ≡ 0
 untaken_none true h = refl
 untaken_none false h = absurd (false≢true h)
 
-untaken_some : (b : Bool) → b ≡ false → one_unless b ≡ 1
+pub untaken_some : (b : Bool) → b ≡ false → one_unless b ≡ 1
 untaken_some true h = absurd (false≢true (sym h))
 untaken_some false h = refl
 

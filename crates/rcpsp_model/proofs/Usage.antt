@@ -51,7 +51,7 @@ fits_decided P es j m t =
       | inr fails ↦ inr (λ f. fails (λ k h u high r low high2. f k u r low high))
     ]
 
-preds_decided : (P : Project) (F : List Entry) (j t : ℕ) → Decided ((x : Entry) → In F x → Before P x.job j → finish P x ≤ t)
+pub preds_decided : (P : Project) (F : List Entry) (j t : ℕ) → Decided ((x : Entry) → In F x → Before P x.job j → finish P x ≤ t)
 preds_decided P [] j t = inl (λ x i. absurd i)
 preds_decided P (y ∷ F) j t =
     elim (both_decided (implies_decided (true_decided (is_before P y.job j)) (le_decided (finish P y) t)) (preds_decided P F j t)) [

@@ -182,7 +182,13 @@ PlanLaw =
     (P : Project) (placed : List Entry) → IsAcyclic P → InTurn (IsPlacedInTurn P) [] placed → IsLeaf P placed → KeepsBudgets P placed →
     (own : OwnSchedule P placed) × IsFeasible P own.schedule
 
--- the serial scheme places the jobs in one way only, by either rule
+-- where each job has an executable mode, the serial scheme places all jobs, by either rule
+abbrev pub SerialPlanLaw : Type 0
+SerialPlanLaw =
+    (P : Project) → IsAcyclic P → ((j : ℕ) → IsJob P j → (m : ℕ) × IsMode P j m × IsExecutable P j m) →
+    ((a : List Entry) × IsSerialPlan P IsShortestMode a) × ((b : List Entry) × IsSerialPlan P IsCheapestMode b)
+
+-- it places them in one way only
 abbrev pub OnePlanLaw : Type 0
 OnePlanLaw =
     (P : Project) (a b : List Entry) → IsAcyclic P →
