@@ -1,7 +1,7 @@
 -- The children of a front: each eligible job and mode has one, and their list is one.
-use Rattle.std.proofs.Common.{◌≡◌, ℕ, zero, suc, ◌+◌, ◌≤◌, max, inl, inr, arith, refl, sym, ap, subst, ◌∙◌, List, [], ◌∷◌, ◌++◌, length, Bool, true, false, cond, eqb, ◌||◌, not}
+use Rattle.std.proofs.Common.{◌≡◌, ℕ, zero, suc, ◌+◌, ◌≤◌, max, inl, inr, arith, refl, sym, ap, subst, ◌∙◌, List, [], ◌∷◌, ◌++◌, length, Bool, true, cond, eqb, ◌||◌, not}
 use Rattle.std.specs.Prelude.{Contains}
-use Rattle.std.proofs.lemmas.Bool.{both_ways, cases_eq, cases_lt, cases_Bool}
+use Rattle.std.proofs.lemmas.Bool.{cases_eq, cases_lt}
 use Rattle.std.proofs.lemmas.List.Sums.{sum_by_push}
 use Rattle.std.proofs.lemmas.List.Elements.{Contains-push, Contains-append_left, Contains-append_right}
 use Rattle.rcpsp_model.specs.declared.parts.Child.{Child}
@@ -15,8 +15,8 @@ use Rattle.rcpsp_model.specs.Modes.{least_need, LacksCapacity, IsExecutable, IsI
 use Rattle.rcpsp_model.specs.Tree.{has_job, CanStart, IsEligible, IsFront, rest_need, HasGap, LeavesBudgets, entry_at, extended, IsShut, IsPlacedChild, IsChild, ByMode, ByJob, ByJobs}
 use Rattle.rcpsp_model.specs.Laws.{ChildrenLaw, OneListLaw, ListExchangeLaw}
 use Rattle.rcpsp_model.proofs.Lists.{In, In-push, In-append, In-from_Contains, All-from_In, total-same, sum_by-filter}
-use Rattle.rcpsp_model.proofs.Numbers.{least-one, Decided, le_decided, lt_decided, below_decided, least_below, least_of}
-use Rattle.rcpsp_model.proofs.Usage.{finish-le-end, can_start_decided, both_decided, implies_decided}
+use Rattle.rcpsp_model.proofs.Numbers.{least-one, Decided, le_decided, lt_decided, below_decided, least_below, least_of, both_decided, implies_decided, true_decided, false_decided}
+use Rattle.rcpsp_model.proofs.Usage.{finish-le-end, can_start_decided}
 use Rattle.rcpsp_model.proofs.ModeLemmas.{inefficient_decided, renewable_decided, nonrenewable_decided}
 use Rattle.rcpsp_model.proofs.Successors.{before-job}
 use Rattle.rcpsp_model.proofs.FrontLemmas.{fits-past_end, last-le-end}
@@ -155,7 +155,7 @@ gap_decided P F l = elim (both_decided (nonrenewable_decided P l) (lt_decided (b
   | inr no_ ↦ inr (λ g. no_ (g.nonrenewable, g.exceeds))
 ]
 
-lack_decided : (P : Project) (j m k : ℕ) → Decided (LacksCapacity P j m k)
+pub lack_decided : (P : Project) (j m k : ℕ) → Decided (LacksCapacity P j m k)
 lack_decided P j m k = elim (both_decided (renewable_decided P k) (both_decided (lt_decided 0 (duration P j m)) (lt_decided (capacity P k) (request P j m k)))) [
   | inl h ↦ inl (record { renewable = h.0; takes_time = h.1.0; lacks = h.1.1 })
   | inr no_ ↦ inr (λ l. no_ (l.renewable, (l.takes_time, l.lacks)))
@@ -230,18 +230,12 @@ by_mode-one P F j (suc n) cs ds p q =
     let last = child-one P F j (suc n) p.1 q.1 p.4 q.4 in
     p.2 ∙ ap (λ (xs : List (Child (List Entry))). xs ++ p.1 ∷ []) before ∙ ap (λ (c : Child (List Entry)). q.0 ++ c ∷ []) last ∙ sym q.2
 
-eligible_decided : (P : Project) (F : List Entry) (j : ℕ) → Decided (IsEligible P F j)
+pub eligible_decided : (P : Project) (F : List Entry) (j : ℕ) → Decided (IsEligible P F j)
 eligible_decided P F j =
-    elim (both_decided (both_decided (le_decided 1 j) (le_decided j (job_count P))) (both_decided (bool_false (has_job F j)) (below_decided (λ i. Before P i j → has_job F i ≡ true) (λ i. implies_decided (bool_true (is_before P i j)) (bool_true (has_job F i))) (job_count P + 1)))) [
+    elim (both_decided (both_decided (le_decided 1 j) (le_decided j (job_count P))) (both_decided (false_decided (has_job F j)) (below_decided (λ i. Before P i j → has_job F i ≡ true) (λ i. implies_decided (true_decided (is_before P i j)) (true_decided (has_job F i))) (job_count P + 1)))) [
       | inl h ↦ inl (record { job = h.0; unplaced = h.1.0; preds = λ i b. h.1.1 i (let r = before-job P i j b in let high = r.1 in omega arith) b })
       | inr no_ ↦ inr (λ e. no_ (e.job, (e.unplaced, λ i _. e.preds i)))
     ]
-  where
-    bool_true : (b : Bool) → Decided (b ≡ true)
-    bool_true b = elim (cases_Bool b) [ inl y ↦ inl y | inr n ↦ inr (λ y. both_ways b n y) ]
-
-    bool_false : (b : Bool) → Decided (b ≡ false)
-    bool_false b = elim (cases_Bool b) [ inl y ↦ inr (λ n. both_ways b n y) | inr n ↦ inl n ]
 
 some_by_job : (P : Project) (F : List Entry) (j : ℕ) → (cs : List (Child (List Entry))) × ByJob P F j cs
 some_by_job P F j = elim (eligible_decided P F j) [

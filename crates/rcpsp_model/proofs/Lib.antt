@@ -21,7 +21,9 @@ pub mod TreeLemmas
 pub mod ChildLemmas
 pub mod LogLemmas
 pub mod TailLemmas
+pub mod RankLemmas
 pub mod OnePlanLemmas
+pub mod SerialLemmas
 pub mod Tests
 pub mod TreeTests
 pub mod ExampleLemmas

@@ -58,7 +58,7 @@ leaf_law P F a f leaf =
     }
 
 -- One more entry makes a longer front.
-in_turn-push : {X : Type 0} (R : List X → X → Type 0) (before xs : List X) (x : X) → InTurn R before xs → R (before ++ xs) x → InTurn R before (xs ++ x ∷ [])
+pub in_turn-push : {X : Type 0} (R : List X → X → Type 0) (before xs : List X) (x : X) → InTurn R before xs → R (before ++ xs) x → InTurn R before (xs ++ x ∷ [])
 in_turn-push {X = X} R before [] x t r = (subst (λ (ys : List X). R ys x) (append-nil before) r, tt)
 in_turn-push {X = X} R before (y ∷ ys) x t r = (t.0, in_turn-push R (before ++ y ∷ []) ys x t.1 (subst (λ (zs : List X). R zs x) (sym (append_assoc before (y ∷ []) ys)) r))
 

@@ -10,6 +10,7 @@ use Rattle.rcpsp_model.specs.Modes.{IsExecutable}
 use Rattle.rcpsp_model.specs.Tree.{last_start, IsFront, IsLeaf, InTurn, Completes, HasGap, IsPlacedChild, Children, AreChildren}
 use Rattle.rcpsp_model.specs.Bounds.{IsTailBound, IsWorkBound, IsLowerBound, rest_work}
 use Rattle.rcpsp_model.specs.Dominance.{Dominates}
+use Rattle.rcpsp_model.specs.Rank.{IsRank}
 use Rattle.rcpsp_model.specs.Plan.{IsShortestMode, IsCheapestMode, IsPlacedInTurn, IsSerialPlan, IsFirstPlan}
 use Rattle.rcpsp_model.specs.Claim.{NoneIsFeasible, NoneEndsBefore}
 use Rattle.rcpsp_model.specs.Log.{IsClosedLog, EndsLate}
@@ -45,6 +46,16 @@ pub record SameFacts (P Q : Project) : Type 0 where
 -- two projects with the same facts are equal
 abbrev pub SameFactsLaw : Type 0
 SameFactsLaw = (P Q : Project) → IsProject P → IsProject Q → SameFacts P Q → P ≡ Q
+
+-- a rank of a job, and no other one
+pub record OneRank (P : Project) (j : ℕ) : Type 0 where
+  pub rank : ℕ
+  pub is : IsRank P j rank
+  pub only : (r : ℕ) → IsRank P j r → r ≡ rank
+
+-- each job has exactly one rank
+abbrev pub RankLaw : Type 0
+RankLaw = (P : Project) (j : ℕ) → IsAcyclic P → IsJob P j → OneRank P j
 
 -- The tree loses nothing.
 
@@ -171,7 +182,13 @@ PlanLaw =
     (P : Project) (placed : List Entry) → IsAcyclic P → InTurn (IsPlacedInTurn P) [] placed → IsLeaf P placed → KeepsBudgets P placed →
     (own : OwnSchedule P placed) × IsFeasible P own.schedule
 
--- the serial scheme places the jobs in one way only, by either rule
+-- where each job has an executable mode, the serial scheme places all jobs, by either rule
+abbrev pub SerialPlanLaw : Type 0
+SerialPlanLaw =
+    (P : Project) → IsAcyclic P → ((j : ℕ) → IsJob P j → (m : ℕ) × IsMode P j m × IsExecutable P j m) →
+    ((a : List Entry) × IsSerialPlan P IsShortestMode a) × ((b : List Entry) × IsSerialPlan P IsCheapestMode b)
+
+-- it places them in one way only
 abbrev pub OnePlanLaw : Type 0
 OnePlanLaw =
     (P : Project) (a b : List Entry) → IsAcyclic P →
