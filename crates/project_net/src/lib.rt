@@ -1,0 +1,7 @@
+//! Schedules of projects.
+#![tactic(auto)]
+
+mod schedule;
+
+pub use rcpsp_model::Placing;
+pub use schedule::Schedule;
