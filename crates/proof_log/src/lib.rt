@@ -1,0 +1,14 @@
+//! The report of a search: what it says, its text, and the lines of the text.
+#![tactic(auto)]
+
+mod letter;
+mod line;
+mod line_text;
+mod report;
+mod words;
+mod writing;
+
+pub use line::{LogWords, ReportLine};
+pub use rcpsp_model::Verdict;
+pub use report::{Log, LogLine, Report};
+pub use writing::write_report;
