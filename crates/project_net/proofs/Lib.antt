@@ -11,3 +11,4 @@ pub mod Sets
 pub mod Taken
 pub mod TailLemmas
 pub mod EndLemmas
+pub mod RankLemmas

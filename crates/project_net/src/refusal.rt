@@ -1,6 +1,7 @@
 ghost use Rattle.std.specs.Prelude.{◌≡◌, ℕ, ◌≤◌, ◌↔◌, IsTrue, IfNone, IfSome, All, length, sum_by};
 ghost use Rattle.rcpsp_model.specs.Project.{IsModeWithinLimits};
 ghost use Rattle.project_net.specs.Draft.{IsJobWithinLimits, IsWithinCounts, IsWithinLimits, HasSuccessorsWithin};
+ghost use Rattle.project_net.specs.Refusal.{IsRefusal};
 
 use crate::draft::{BuildRefusal, Draft, DraftJob};
 use rcpsp_model::Mode;
@@ -81,6 +82,7 @@ fn is_within_counts(draft: &Draft) -> bool
 /// The first fault of a draft's numbers, if it has one.
 pub fn first_refusal(draft: &Draft) -> Option<BuildRefusal>
     ensures none { IfNone result (IsWithinLimits draft.now) }
+    ensures some { IfSome result (IsRefusal draft.now) }
 {
     if !is_within_counts(draft) {
         return Some(BuildRefusal::OutOfLimit { job: 0 });
