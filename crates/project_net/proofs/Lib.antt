@@ -12,3 +12,4 @@ pub mod Taken
 pub mod TailLemmas
 pub mod EndLemmas
 pub mod RankLemmas
+pub mod RefusalLemmas

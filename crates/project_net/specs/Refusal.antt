@@ -42,3 +42,8 @@ IsRefusal draft (OutOfLimit j) = ((j ≡ 0) × (IsWithinCounts draft → ⊥)) �
 IsRefusal draft (SuccessorOutOfRange j) = IsFirstFault draft (λ job. KeepsLimits draft job × (KeepsRange draft job → ⊥)) j
 IsRefusal draft (Cycle j) = IsWithinLimits draft × IsLeast (IsOnCycle (project_of draft)) j
 IsRefusal draft NoMemory = Unit {0}
+
+-- A sound draft has no fault, and no draft has two first faults.
+pub record HasOneFirstFault : Type 0 where
+  pub sound : (draft : Draft) (refusal : BuildRefusal) → IsSound draft → IsRefusal draft refusal → refusal ≡ NoMemory
+  pub one : (draft : Draft) (a b : BuildRefusal) → IsRefusal draft a → IsRefusal draft b → (a ≡ NoMemory) ⊎ ((b ≡ NoMemory) ⊎ (a ≡ b))

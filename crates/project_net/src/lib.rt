@@ -15,4 +15,5 @@ mod schedule;
 pub use draft::{BuildRefusal, Draft, DraftJob};
 pub use project::Project;
 pub use rcpsp_model::{Mode, Placing};
+pub use refusal::one_first_fault;
 pub use schedule::Schedule;
