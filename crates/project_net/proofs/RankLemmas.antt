@@ -29,10 +29,9 @@ pub ranks-all : (P : Project) (order ranks : List ℕ) → IsLowestFirst P order
 ranks-all P order ranks f t size first = record {
   size = size;
   each = λ j r.
-    let there = t.all j r in
-    let is : slice_index ranks (j - 1) ≡ there.0 + 1 = sym (ap (λ k. slice_index ranks (k - 1)) there.2) ∙ first there.0 there.1 in
-    (
-      subst (λ n. IsRank P j n) (sym is) (subst (λ k. IsRank P k (there.0 + 1)) there.2 (rank-at P order there.0 f there.1)),
-      (let few = t.few in let lt = there.1 in omega arith),
-    );
+      let there = t.all j r in
+      let is : slice_index ranks (j - 1) ≡ there.0 + 1 = sym (ap (λ k. slice_index ranks (k - 1)) there.2) ∙ first there.0 there.1 in (
+        subst (λ n. IsRank P j n) (sym is) (subst (λ k. IsRank P k (there.0 + 1)) there.2 (rank-at P order there.0 f there.1)),
+        (let few = t.few in let lt = there.1 in omega arith),
+      );
 }

@@ -11,6 +11,8 @@ mod project;
 mod reach;
 mod refusal;
 mod schedule;
+#[cfg(test)]
+mod tests;
 
 pub use draft::{BuildRefusal, Draft, DraftJob};
 pub use project::Project;

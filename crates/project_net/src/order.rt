@@ -19,7 +19,8 @@ fn lowest_free(network: &Network, taken: JobSet) -> Option<u8>
     ensures some { IfSome result (IsLowestFree network.now (member taken)) }
     ensures none { IfNone result ((j : ℕ) → IsFree network.now (member taken) j → ⊥) }
 {
-    for job in 1..network.jobs() + 1 {
+    for place in 0..network.jobs() {
+        let job = place + 1;
         if !taken.has(Job(job)) && is_within(network.preds(job), taken) {
             return Some(job);
         }

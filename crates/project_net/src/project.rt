@@ -1,4 +1,4 @@
-ghost use Rattle.std.specs.Prelude.{◌≡◌, ℕ, ◌≤◌, length, All, IfOk, IfErr, OnOk};
+ghost use Rattle.std.specs.Prelude.{◌≡◌, ℕ, ◌≤◌, ◌↔◌, IsTrue, length, All, IfOk, IfErr, OnOk};
 
 use crate::chains::{least_durations, tails};
 use crate::draft::{BuildRefusal, Draft};
@@ -220,6 +220,28 @@ impl Project {
         ensures few { result ≤ job_count self.now }
     {
         self.ranks[job as usize - 1]
+    }
+
+    /// Whether a job has a mode of this number.
+    pub fn has_mode(&self, job: u8, mode: u8) -> bool
+        requires { IsJob self.now job }
+        ensures { IsTrue result ↔ IsMode self.now job mode }
+    {
+        1 <= mode && mode <= self.modes(job)
+    }
+
+    /// Whether a schedule gives each job one of its modes.
+    pub fn has_modes_of(&self, schedule: &Schedule) -> bool
+        requires { length schedule.now ≡ job_count self.now }
+        ensures { IsTrue result ↔ All (λ e. IsMode self.now e.job e.mode) (entries schedule.now) }
+    {
+        for done in 0..self.jobs() {
+            let place = schedule.place(done + 1);
+            if !self.has_mode(done + 1, place.mode) {
+                return false;
+            }
+        }
+        true
     }
 
     /// The greatest finish of a schedule.
