@@ -1,5 +1,4 @@
-ghost use Rattle.std.specs.Prelude.{◌≡◌, IsOk, IsSome};
-ghost use Rattle.rcpsp_model.specs.Schedule.{AreOf, KeepsCapacities};
+ghost use Rattle.profiles.specs.Placed.{IsProfileOf};
 
 use crate::Profile;
 use project_net::{Draft, DraftJob, Project};
@@ -37,92 +36,116 @@ fn project_of(
     )?)
 }
 
-/// Places a job of one mode at its earliest start from the floor on, and gives that start.
-fn place_from(
+/// The earliest start of a job of one mode from the floor on.
+fn earliest_from(
     rt: &impl Abort,
     project: &Project,
-    profile: &mut Profile,
+    profile: &Profile,
     job: u8,
     floor: u32,
 ) -> Option<u32>
-    requires entries { AreOf project.now profile.old.entries }
-    requires capacity { KeepsCapacities project.now profile.old.entries }
-    ensures of { AreOf project.now profile.new.entries }
-    ensures keeps { KeepsCapacities project.now profile.new.entries }
+    requires { IsProfileOf project.now profile.now }
 {
     assert!(rt; 1 <= job && job <= project.jobs());
-    let start = profile.earliest(project, job, 1, floor)?;
-    assert!(rt; start <= 999_999_999);
-    assert_eq!(rt; profile.place(project, job, 1, start), Ok(()));
-    Some(start)
+    let modes = project.modes(job);
+    assert!(rt; 1 <= modes);
+    profile.earliest(project, job, 1, floor)
 }
 
-/// Durations, requests and starts of a plan of eighteen jobs.
-const PLAN: [(u32, [u32; 2], u32); 18] = [
-    (0, [0, 0], 0),
-    (3, [4, 2], 0),
-    (4, [3, 3], 0),
-    (2, [2, 4], 0),
-    (4, [4, 0], 3),
-    (2, [3, 2], 3),
-    (3, [0, 4], 4),
-    (5, [2, 3], 4),
-    (3, [3, 3], 5),
-    (4, [4, 0], 2),
-    (5, [5, 2], 7),
-    (3, [2, 3], 8),
-    (4, [3, 2], 9),
-    (2, [2, 2], 8),
-    (6, [6, 1], 12),
-    (3, [3, 4], 13),
-    (4, [2, 3], 10),
-    (0, [0, 0], 18),
+/// Places a job of one mode at a start where it fits.
+fn place_at(rt: &impl Abort, project: &Project, profile: &mut Profile, job: u8, start: u32)
+    requires { IsProfileOf project.now profile.old }
+    ensures { IsProfileOf project.now profile.new }
+{
+    assert!(rt; 1 <= job && job <= project.jobs());
+    let modes = project.modes(job);
+    assert!(rt; 1 <= modes && start <= 999_999_999);
+    assert!(rt; profile.fits(project, job, 1, start));
+    assert_eq!(rt; profile.place(project, job, 1, start), Ok(()));
+}
+
+/// Durations and requests of eighteen jobs.
+const JOBS: [(u32, [u32; 2]); 18] = [
+    (0, [0, 0]),
+    (3, [4, 2]),
+    (4, [3, 3]),
+    (2, [2, 4]),
+    (4, [4, 0]),
+    (2, [3, 2]),
+    (3, [0, 4]),
+    (5, [2, 3]),
+    (3, [3, 3]),
+    (4, [4, 0]),
+    (5, [5, 2]),
+    (3, [2, 3]),
+    (4, [3, 2]),
+    (2, [2, 2]),
+    (6, [6, 1]),
+    (3, [3, 4]),
+    (4, [2, 3]),
+    (0, [0, 0]),
+];
+
+/// Their starts in a plan.
+const STARTS: [(u8, u32); 18] = [
+    (1, 0),
+    (2, 0),
+    (3, 0),
+    (4, 0),
+    (5, 3),
+    (6, 3),
+    (7, 4),
+    (8, 4),
+    (9, 5),
+    (10, 2),
+    (11, 7),
+    (12, 8),
+    (13, 9),
+    (14, 8),
+    (15, 12),
+    (16, 13),
+    (17, 10),
+    (18, 18),
 ];
 
 /// What that plan takes of either resource in each period.
-const USAGE: [[u64; 2]; 19] = [
-    [9, 9],
-    [9, 9],
-    [11, 5],
-    [14, 5],
-    [13, 9],
-    [13, 10],
-    [9, 10],
-    [10, 8],
-    [11, 10],
-    [12, 9],
-    [12, 10],
-    [10, 7],
-    [11, 6],
-    [11, 8],
-    [9, 5],
-    [9, 5],
-    [6, 1],
-    [6, 1],
-    [0, 0],
+const USAGE: [(u32, u64, u64); 19] = [
+    (0, 9, 9),
+    (1, 9, 9),
+    (2, 11, 5),
+    (3, 14, 5),
+    (4, 13, 9),
+    (5, 13, 10),
+    (6, 9, 10),
+    (7, 10, 8),
+    (8, 11, 10),
+    (9, 12, 9),
+    (10, 12, 10),
+    (11, 10, 7),
+    (12, 11, 6),
+    (13, 11, 8),
+    (14, 9, 5),
+    (15, 9, 5),
+    (16, 6, 1),
+    (17, 6, 1),
+    (18, 0, 0),
 ];
 
 #[test]
 fn usage_of_a_plan(rt: HostRuntime) -> Result<(), Fail> {
-    let mut jobs = Vec::new(rt.alloc());
-    for (duration, requests, _) in PLAN {
-        jobs.push((duration, requests))?;
-    }
-    let project = project_of(rt.alloc(), jobs.as_slice(), [14, 10])?;
+    let project = project_of(rt.alloc(), &JOBS, [14, 10])?;
     let mut profile = Profile::empty(rt.alloc());
-    let mut job = 0;
-    for (_, _, start) in PLAN {
-        job += 1;
+    for (job, start) in STARTS {
         assert_eq!(rt;
-            place_from(&rt, &project, &mut profile, job, start),
+            earliest_from(&rt, &project, &profile, job, start),
             Some(start),
             "job {job}"
         );
+        place_at(&rt, &project, &mut profile, job, start);
     }
     assert_eq!(rt; profile.entries().len(), 18);
     assert_eq!(rt; project.renewables(), 2);
-    let mut period = 0;
-    for [first, second] in USAGE {
+    for (period, first, second) in USAGE {
         assert_eq!(rt;
             profile.usage(&project, 1, period),
             first,
@@ -133,7 +156,6 @@ fn usage_of_a_plan(rt: HostRuntime) -> Result<(), Fail> {
             second,
             "period {period}"
         );
-        period += 1;
     }
     Ok(())
 }
@@ -150,24 +172,22 @@ fn starts_beside_a_full_period(rt: HostRuntime) -> Result<(), Fail> {
     ];
     let project = project_of(rt.alloc(), &jobs, [2, 0])?;
     let mut profile = Profile::empty(rt.alloc());
-    assert_eq!(rt; project.jobs(), 5);
-    assert_eq!(rt; place_from(&rt, &project, &mut profile, 1, 1), Some(1));
-    for (job, floor, start) in [
+    place_at(&rt, &project, &mut profile, 1, 1);
+    let cases = [
         (2, 0, Some(0)),
         (2, 1, Some(2)),
         (3, 0, Some(2)),
         (4, 1, Some(1)),
         (5, 0, None),
-    ] {
-        assert!(rt; 1 <= job && job <= project.jobs());
+        (2, 4_294_967_295, Some(4_294_967_295)),
+    ];
+    for (job, floor, start) in cases {
         assert_eq!(rt;
-            profile.earliest(&project, job, 1, floor),
+            earliest_from(&rt, &project, &profile, job, floor),
             start,
             "job {job} from {floor}"
         );
     }
-    assert!(rt; !profile.fits(&project, 2, 1, 1));
-    assert!(rt; profile.fits(&project, 2, 1, 4_294_967_295));
     Ok(())
 }
 
@@ -176,9 +196,10 @@ fn room_is_made_and_used(rt: HostRuntime) -> Result<(), Fail> {
     let project = project_of(rt.alloc(), &[(1, [1, 1]), (1, [1, 1])], [1, 1])?;
     let mut profile = Profile::empty(rt.alloc());
     assert_eq!(rt; profile.reserve(2), Ok(()));
-    assert_eq!(rt; place_from(&rt, &project, &mut profile, 1, 0), Some(0));
-    let mut copy = profile.try_copy()?;
-    assert_eq!(rt; place_from(&rt, &project, &mut copy, 2, 0), Some(1));
+    place_at(&rt, &project, &mut profile, 1, 0);
+    assert_eq!(rt; profile.entries().len(), 1);
+    let mut copy = profile.try_copy(1)?;
+    place_at(&rt, &project, &mut copy, 2, 1);
     assert_eq!(rt; profile.entries().len(), 1);
     assert_eq!(rt; copy.entries().len(), 2);
     assert_eq!(rt; copy.entries()[0], profile.entries()[0]);
