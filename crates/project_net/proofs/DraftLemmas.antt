@@ -1,7 +1,7 @@
 -- From a draft within the limits to its project.
-use Rattle.std.proofs.Common.{◌≡◌, ℕ, zero, suc, ◌+◌, ◌-◌, ◌<◌, ◌≤◌, ◌⊎◌, inl, inr, arith, refl, sym, ap, subst, ◌∙◌, List, [], ◌∷◌, length, get_or, Bool, true, false, ◌&&◌}
-use Rattle.std.specs.Prelude.{All, map, filter, sum_by, nat_le, take, drop, slice_range}
-use Rattle.std.specs.List.{range_with_len, list_any}
+use Rattle.std.proofs.Common.{◌≡◌, ℕ, ◌+◌, ◌-◌, ◌<◌, ◌≤◌, inl, inr, arith, refl, sym, ap, subst, ◌∙◌, List, [], ◌∷◌, length, get_or, false, ◌&&◌}
+use Rattle.std.specs.Prelude.{map, filter, sum_by, nat_le, take, drop, slice_range}
+use Rattle.std.specs.List.{range_with_len}
 use Rattle.std.proofs.lemmas.Bool.{cases_lt, le-leb, and_right}
 use Rattle.std.proofs.lemmas.List.{get_or-map, length-map, ext_get_or, get_or_past, get_or_default, take-append-drop, length-append}
 use Rattle.std.proofs.lemmas.List.FromFn.{length-map-range_with_len, get_or-map-range_with_len}
@@ -18,7 +18,7 @@ use Rattle.project_net.specs.Draft.{has, activity_of, project_of, IsJobWithinLim
 use Rattle.project_net.specs.Flat.{ModeList, row, activity_in, project_in, Agrees}
 use Rattle.project_net.specs.Flatten.{no_job, all_modes, AreFirstPlaces, AreSuccessorSets, AreTurned}
 use Rattle.project_net.proofs.FlattenLemmas.{modes_between, length-all_modes_more}
-use Rattle.project_net.proofs.Ranges.{All-filter-range, ascending-filter, filter-range-same, has-filter-range, has-below, has-above}
+use Rattle.project_net.proofs.Ranges.{All-filter-range, ascending-filter, filter-range-same, has-filter-range, has-above}
 
 sum_by-map : {X Y : Type 0} (g : Y → ℕ) (f : X → Y) (xs : List X) → sum_by g (map f xs) ≡ sum_by (λ x. g (f x)) xs
 sum_by-map g f [] = refl
@@ -42,18 +42,18 @@ limits-project_of draft w =
       few_renewables = w.counts.few_renewables;
       few_nonrenewables = w.counts.few_nonrenewables;
       activities = All-from_get_or (IsActivityWithinLimits (length (map f draft.jobs)) (length draft.capacities) (length draft.budgets)) (map f draft.jobs) no_activity
-        (λ i h.
-        let lt : i < n = omega arith in
-        let job = All-get_or (IsJobWithinLimits (length draft.capacities) (length draft.budgets)) draft.jobs i no_job lt w.jobs in
-        let here : IsActivityWithinLimits n (length draft.capacities) (length draft.budgets) (f (get_or draft.jobs i no_job)) = record {
-          some_mode = job.some_mode;
-          few_modes = job.few_modes;
-          modes = job.modes;
-          ascending = ascending-filter (has (get_or draft.jobs i no_job).successors) 1 n;
-          successors = All-filter-range (has (get_or draft.jobs i no_job).successors) 1 n 1 n (omega arith) (omega arith);
-        } in
-        subst (λ (a : Activity). IsActivityWithinLimits (length (map f draft.jobs)) (length draft.capacities) (length draft.budgets) a) (sym (get_or-map f draft.jobs i no_job no_activity lt))
-        (subst (λ (k : ℕ). IsActivityWithinLimits k (length draft.capacities) (length draft.budgets) (f (get_or draft.jobs i no_job))) (sym size) here));
+          (λ i h.
+          let lt : i < n = omega arith in
+          let job = All-get_or (IsJobWithinLimits (length draft.capacities) (length draft.budgets)) draft.jobs i no_job lt w.jobs in
+          let here : IsActivityWithinLimits n (length draft.capacities) (length draft.budgets) (f (get_or draft.jobs i no_job)) = record {
+            some_mode = job.some_mode;
+            few_modes = job.few_modes;
+            modes = job.modes;
+            ascending = ascending-filter (has (get_or draft.jobs i no_job).successors) 1 n;
+            successors = All-filter-range (has (get_or draft.jobs i no_job).successors) 1 n 1 n (omega arith) (omega arith);
+          } in
+          subst (λ (a : Activity). IsActivityWithinLimits (length (map f draft.jobs)) (length draft.capacities) (length draft.budgets) a) (sym (get_or-map f draft.jobs i no_job no_activity lt))
+          (subst (λ (k : ℕ). IsActivityWithinLimits k (length draft.capacities) (length draft.budgets) (f (get_or draft.jobs i no_job))) (sym size) here));
       capacities = w.counts.capacities;
       budgets = w.counts.budgets;
     }
@@ -130,23 +130,23 @@ agrees-of draft firsts after before w f s t =
       nonrenewables = refl;
       all_places = let e = f.size in omega arith;
       rising = λ i h.
-        let a = f.places i (omega arith) in let b = f.places (i + 1) (omega arith) in
-        let e = length-all_modes_more draft.jobs i (get_or draft.jobs i no_job) (omega arith) (get_or_default draft.jobs i no_job (get_or draft.jobs i no_job) (omega arith)) in
-        omega arith;
+          let a = f.places i (omega arith) in let b = f.places (i + 1) (omega arith) in
+          let e = length-all_modes_more draft.jobs i (get_or draft.jobs i no_job) (omega arith) (get_or_default draft.jobs i no_job (get_or draft.jobs i no_job) (omega arith)) in
+          omega arith;
       within = λ i h.
-        let a = f.places i (omega arith) in
-        let e = ap length (sym (ap all_modes (take-append-drop i draft.jobs)) ∙ flat_map-append (λ (x : DraftJob). x.modes) (take i draft.jobs) (drop i draft.jobs)) in
-        let l = length-append (all_modes (take i draft.jobs)) (all_modes (drop i draft.jobs)) in
-        omega arith;
+          let a = f.places i (omega arith) in
+          let e = ap length (sym (ap all_modes (take-append-drop i draft.jobs)) ∙ flat_map-append (λ (x : DraftJob). x.modes) (take i draft.jobs) (drop i draft.jobs)) in
+          let l = length-append (all_modes (take i draft.jobs)) (all_modes (drop i draft.jobs)) in
+          omega arith;
       all_predecessors = turned;
       successors = pairs;
       predecessors = λ i j r one.
-        let low = r.0 in let high = r.1 in
-        t.sets i j one low (omega arith)
-        ∙ elim (cases_lt n i) [
-          | inl above ↦ member-beyond after i j (omega arith) ∙ sym (is_before-beyond (project_of draft) i j (omega arith))
-          | inr within ↦ pairs i j (one, omega arith) low
-        ];
+          let low = r.0 in let high = r.1 in
+          t.sets i j one low (omega arith)
+          ∙ elim (cases_lt n i) [
+            | inl above ↦ member-beyond after i j (omega arith) ∙ sym (is_before-beyond (project_of draft) i j (omega arith))
+            | inr within ↦ pairs i j (one, omega arith) low
+          ];
     }
 
 pub in-of : (draft : Draft) (table : ModeList) (firsts : List ℕ) (after : List JobSet) →

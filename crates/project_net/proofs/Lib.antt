@@ -10,3 +10,4 @@ pub mod Cycles
 pub mod Sets
 pub mod Taken
 pub mod TailLemmas
+pub mod EndLemmas

@@ -1,9 +1,7 @@
 -- What the limits say of one job, one mode, one resource.
-use Rattle.std.proofs.Common.{◌≡◌, ℕ, ◌+◌, ◌-◌, ◌<◌, ◌≤◌, arith, List, length, get_or, subst}
-use Rattle.std.specs.Prelude.{All, slice_index}
+use Rattle.std.proofs.Common.{ℕ, ◌-◌, ◌≤◌, arith, length, get_or}
 use Rattle.std.proofs.lemmas.List.Elements.{All-get_or}
-use Rattle.rcpsp_model.specs.declared.parts.Mode.{Mode}
-use Rattle.rcpsp_model.specs.Project.{Project, Activity, IsWithinLimits, IsActivityWithinLimits, IsModeWithinLimits, IsJob, IsMode, IsRenewable, IsNonrenewable, no_activity, no_mode, job_count, modes_of, mode_of, duration, request, need, capacity, budget}
+use Rattle.rcpsp_model.specs.Project.{Project, IsWithinLimits, IsActivityWithinLimits, IsModeWithinLimits, IsJob, IsMode, IsRenewable, IsNonrenewable, no_activity, no_mode, job_count, modes_of, mode_of, duration, request, need}
 
 pub few_jobs : (P : Project) → IsWithinLimits P → job_count P ≤ 128
 few_jobs P w = w.few_jobs

@@ -1,9 +1,9 @@
 -- The pairs of a project join its jobs.
-use Rattle.std.proofs.Common.{◌≡◌, ℕ, ◌+◌, ◌-◌, ◌<◌, ◌≤◌, ◌⊎◌, inl, inr, arith, refl, sym, ap, subst, ◌∙◌, List, [], ◌∷◌, length, get_or, Bool, true, false, eqb, ◌||◌, ◌&&◌}
+use Rattle.std.proofs.Common.{◌≡◌, ℕ, ◌-◌, ◌≤◌, inl, inr, arith, subst, List, [], ◌∷◌, length, get_or, true, eqb}
 use Rattle.std.specs.Prelude.{All, nat_le}
-use Rattle.std.proofs.lemmas.Bool.{cases_lt, or_cases, eqb-true, both_ways, and_parts, leb-true, eq-eqb, or_left, or_right}
+use Rattle.std.proofs.lemmas.Bool.{cases_lt, or_cases, eqb-true, both_ways, and_parts, leb-true}
 use Rattle.std.proofs.lemmas.List.Elements.{All-head, All-tail, All-get_or}
-use Rattle.rcpsp_model.specs.Project.{Project, Activity, no_activity, job_count, successors_of, is_before, Before, IsJob, IsWithinLimits, IsActivityWithinLimits}
+use Rattle.rcpsp_model.specs.Project.{Project, no_activity, job_count, successors_of, is_before, Before, IsJob, IsWithinLimits, IsActivityWithinLimits}
 use Rattle.project_net.specs.Draft.{has}
 use Rattle.project_net.proofs.DraftLemmas.{is_before-beyond}
 

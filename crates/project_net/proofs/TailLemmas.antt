@@ -1,13 +1,12 @@
 -- Least durations over the modes, and the tail of a job from those of its successors.
-use Rattle.std.proofs.Common.{◌≡◌, ℕ, zero, suc, ◌+◌, ◌-◌, ◌*◌, ◌<◌, ◌≤◌, min, ◌⊎◌, inl, inr, arith, refl, sym, ap, subst, ◌∙◌, List, [], ◌∷◌, ◌++◌, length, get_or, take, length-take, replicate, set, length-set, get_or-set_same, get_or-set_other}
+use Rattle.std.proofs.Common.{◌≡◌, ℕ, zero, suc, ◌+◌, ◌-◌, ◌*◌, ◌<◌, ◌≤◌, min, inl, inr, arith, refl, sym, ap, subst, ◌∙◌, List, [], ◌∷◌, ◌++◌, length, get_or, take, length-take, replicate, set, length-set, get_or-set_same, get_or-set_other}
 use Rattle.std.specs.Prelude.{sum_by, slice_index}
-use Rattle.std.proofs.Math.Nat.{mul-le-mul_left}
-use Rattle.std.proofs.lemmas.Bool.{cases_eq, cases_lt}
+use Rattle.std.proofs.lemmas.Bool.{cases_eq}
 use Rattle.std.proofs.lemmas.List.{take_more, take_all, length-replicate}
 use Rattle.std.proofs.lemmas.List.Sums.{sum_by-cons}
 use Rattle.rcpsp_model.specs.declared.parts.Mode.{Mode}
 use Rattle.rcpsp_model.specs.Project.{Project, modes_of, mode_of, no_mode, duration, job_count, Before, IsJob, IsAcyclic, IsWithinLimits}
-use Rattle.rcpsp_model.specs.Chain.{least_over, least_duration, IsChain, IsTail, ChainLength}
+use Rattle.rcpsp_model.specs.Chain.{least_over, least_duration, IsChain, IsTail}
 use Rattle.project_net.specs.Order.{IsTopological}
 use Rattle.project_net.specs.Tails.{AreLeastDurations, IsLongestAfter, AreLastTails, AreTails}
 use Rattle.project_net.proofs.Limits.{few_jobs}

@@ -1,8 +1,8 @@
 -- Jobs taken in turn, each time the lowest free one.
-use Rattle.std.proofs.Common.{◌≡◌, ℕ, zero, suc, ◌+◌, ◌<◌, ◌≤◌, ◌⊎◌, inl, inr, arith, refl, sym, ap, subst, ◌∙◌, List, [], ◌∷◌, ◌++◌, length, length-append, get_or, take, append_assoc, add-one, length-take, Bool, true, false, ◌||◌, eqb}
+use Rattle.std.proofs.Common.{◌≡◌, ℕ, zero, suc, ◌+◌, ◌<◌, ◌≤◌, inl, inr, arith, refl, sym, ap, subst, ◌∙◌, List, [], ◌∷◌, ◌++◌, length, length-append, get_or, take, append_assoc, add-one, length-take, Bool, true, false, ◌||◌, eqb}
 use Rattle.std.specs.Prelude.{filter, slice_index}
 use Rattle.std.specs.List.{range_with_len}
-use Rattle.std.proofs.lemmas.Bool.{cases_Bool, both_ways, cases_eq, cases_order, eq-eqb, ne_eqb, eqb-true, or_cases, or_left, or_right}
+use Rattle.std.proofs.lemmas.Bool.{cases_Bool, both_ways, cases_order, eq-eqb, eqb-true, or_cases, or_left, or_right}
 use Rattle.std.proofs.lemmas.List.{append-nil, get_or-take}
 use Rattle.std.proofs.lemmas.List.Sums.{length-filter, count_by-le-length}
 use Rattle.std.proofs.lemmas.List.FromFn.{length-range_with_len}
@@ -10,7 +10,7 @@ use Rattle.sched_base.specs.declared.job_set.JobSet.{JobSet}
 use Rattle.sched_base.specs.JobSet.{member}
 use Rattle.rcpsp_model.specs.Project.{Project, Before, IsJob, IsAcyclic, job_count}
 use Rattle.project_net.specs.Draft.{has}
-use Rattle.project_net.specs.Order.{InTurn, HasPredecessors, IsFree, IsLowestFree, IsLowestFirst, IsTopological}
+use Rattle.project_net.specs.Order.{InTurn, IsFree, IsLowestFree, IsLowestFirst, IsTopological}
 use Rattle.project_net.proofs.Ranges.{length-filter-lt, eqb-swap}
 
 -- the set has the jobs of the list, which were taken in turn
@@ -161,7 +161,7 @@ topological P order t all = record {
   jobs = λ a h. (taken-at P order a t h).free.job;
   all = λ j r. place-of order j (all j r);
   rises = λ a b ha hb before.
-    let k = place-in-take order b (slice_index order a) ((taken-at P order b t hb).free.predecessors (slice_index order a) before) in
-    let same = one-place P order k.0 a t k.2 ha k.3 in
-    omega (arith, k.1);
+      let k = place-in-take order b (slice_index order a) ((taken-at P order b t hb).free.predecessors (slice_index order a) before) in
+      let same = one-place P order k.0 a t k.2 ha k.3 in
+      omega (arith, k.1);
 }

@@ -1,9 +1,9 @@
 -- Chains through the jobs up to a number, and all chains.
-use Rattle.std.proofs.Common.{◌≡◌, ℕ, zero, suc, ◌+◌, ◌<◌, ◌≤◌, ◌⊎◌, inl, inr, arith, refl, sym, ap, subst, ◌∙◌, Bool, true, false, ◌||◌, ◌&&◌, List, length, add-one}
+use Rattle.std.proofs.Common.{◌≡◌, ℕ, zero, suc, ◌+◌, ◌<◌, ◌≤◌, ◌⊎◌, inl, inr, arith, sym, ap, subst, ◌∙◌, true, ◌||◌, ◌&&◌, List, add-one}
 use Rattle.std.proofs.lemmas.Bool.{cases_eq, or_cases, or_left, or_right, and_parts, and_from}
 use Rattle.sched_base.specs.declared.job_set.JobSet.{JobSet}
 use Rattle.sched_base.specs.JobSet.{member}
-use Rattle.rcpsp_model.specs.Project.{Project, Before, is_before, IsJob, job_count}
+use Rattle.rcpsp_model.specs.Project.{Project, Before, IsJob, job_count}
 use Rattle.project_net.specs.Flat.{row}
 use Rattle.project_net.specs.Order.{Leads, pair, on, leads_via, AreVia, AreDescendants, Merges}
 
@@ -79,11 +79,11 @@ pub via-step : (P : Project) (k : ℕ) (old new : List JobSet) → k < job_count
 via-step P k old new h v m = record {
   size = m.size ∙ v.size;
   sets = λ i j p one.
-    let low = p.0 in let high = p.1 in let size = v.size in
-    let via : IsJob P (k + 1) = (omega arith, omega arith) in
-    m.sets i j low (omega arith) one
-    ∙ ap (λ b. b || (member (row old i) (k + 1) && member (row old (k + 1)) j)) (v.sets i j p one)
-    ∙ ap (λ b. leads_via P k i j || (b && member (row old (k + 1)) j)) (v.sets i (k + 1) p via.0)
-    ∙ ap (λ b. leads_via P k i j || (leads_via P k i (k + 1) && b)) (v.sets (k + 1) j via one)
-    ∙ rw add-one;
+      let low = p.0 in let high = p.1 in let size = v.size in
+      let via : IsJob P (k + 1) = (omega arith, omega arith) in
+      m.sets i j low (omega arith) one
+      ∙ ap (λ b. b || (member (row old i) (k + 1) && member (row old (k + 1)) j)) (v.sets i j p one)
+      ∙ ap (λ b. leads_via P k i j || (b && member (row old (k + 1)) j)) (v.sets i (k + 1) p via.0)
+      ∙ ap (λ b. leads_via P k i j || (leads_via P k i (k + 1) && b)) (v.sets (k + 1) j via one)
+      ∙ rw add-one;
 }

@@ -1,7 +1,6 @@
 -- Drafts of projects: the project that a draft describes, and the faults that it may have.
-use Rattle.std.specs.Prelude.{◌≡◌, ℕ, ◌≤◌, ◌==◌, Bool, List, length, map, filter, sum_by, All}
+use Rattle.std.specs.Prelude.{ℕ, ◌≤◌, ◌==◌, Bool, List, length, map, filter, sum_by, All}
 use Rattle.std.specs.List.{list_any, range_with_len}
-use Rattle.rcpsp_model.specs.declared.parts.Mode.{Mode}
 use Rattle.rcpsp_model.specs.Project.{Project, Activity, IsModeWithinLimits}
 use Rattle.project_net.specs.declared.draft.Draft.{Draft}
 use Rattle.project_net.specs.declared.draft.DraftJob.{DraftJob}

@@ -69,7 +69,12 @@ fn fill(network: &Network, order: &[u8], durations: &[u32], tails: &mut [u32])
 }
 
 /// For each job the greatest sum of least durations over the chains that begin with it.
-pub fn tails(alloc: Global, network: &Network, order: &[u8], durations: &[u32]) -> Result<Vec<u32>, NoMemory>
+pub fn tails(
+    alloc: Global,
+    network: &Network,
+    order: &[u8],
+    durations: &[u32],
+) -> Result<Vec<u32>, NoMemory>
     requires acyclic { IsAcyclic network.now }
     requires order { IsTopological network.now order.now }
     requires durations { AreLeastDurations network.now durations.now }

@@ -24,7 +24,12 @@ fn with_modes(table: ModeTable, modes: &[Mode]) -> Result<ModeTable, NoMemory>
 }
 
 /// The modes of all jobs, one job's after another's.
-pub fn mode_table(alloc: Global, jobs: &[DraftJob], renewables: usize, nonrenewables: usize) -> Result<ModeTable, NoMemory>
+pub fn mode_table(
+    alloc: Global,
+    jobs: &[DraftJob],
+    renewables: usize,
+    nonrenewables: usize,
+) -> Result<ModeTable, NoMemory>
     requires { All (IsJobWithinLimits renewables nonrenewables) jobs.now }
     ensures { IfOk result (λ t. t ≡ record { renewables = renewables; nonrenewables = nonrenewables; modes = all_modes jobs.now }) }
 {

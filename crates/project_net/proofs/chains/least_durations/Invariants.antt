@@ -1,4 +1,4 @@
-use Rattle.std.proofs.Common.{◌≡◌, ℕ, ◌≤◌, ◌<◌, ◌-◌, length, get_or}
+use Rattle.std.proofs.Common.{◌≡◌, ℕ, ◌≤◌, ◌-◌, length, get_or}
 use Rattle.rcpsp_model.specs.Chain.{least_duration}
 use Rattle.project_net.proofs.chains.least_durations.Given as goal
 

@@ -1,4 +1,4 @@
-use Rattle.std.proofs.Common.{◌≡◌, ℕ, arith, ap, subst, sym, ◌∙◌, List, [], ◌∷◌, length, length-append}
+use Rattle.std.proofs.Common.{ℕ, arith, ap, subst, sym, ◌∙◌, List, [], ◌∷◌, length, length-append}
 use Rattle.sched_base.specs.JobSet.{member}
 use Rattle.project_net.proofs.Limits.{few_jobs}
 use Rattle.project_net.proofs.Taken.{Taken, taken-push, length-taken-lt, all-taken, topological}

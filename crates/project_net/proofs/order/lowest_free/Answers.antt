@@ -1,7 +1,5 @@
-use Rattle.std.proofs.Common.{◌≡◌, ℕ, ◌<◌, ◌≤◌, inl, inr, arith, sym, ◌∙◌}
+use Rattle.std.proofs.Common.{inl, inr, arith, sym, ◌∙◌}
 use Rattle.std.proofs.lemmas.Bool.{cases_lt}
-use Rattle.sched_base.specs.JobSet.{member}
-use Rattle.project_net.specs.Order.{IsFree}
 use Rattle.project_net.proofs.Pairs.{first-low}
 use Rattle.project_net.proofs.order.lowest_free.Goals as goal
 
@@ -11,8 +9,8 @@ returns-then-is_within-clause-some c = record {
     job = (c.loop-job.auto.job, let t = c.loop-job-test.true in let n = c.jobs-job-end.ensures.value in omega arith);
     untaken = sym c.if-not-has.ensures;
     predecessors = λ i b.
-      let low = first-low c.args.network.now i c.loop-job.job b in
-      c.is_within.ensures.0 c.if-is_within.true i low (c.preds.ensures i low ∙ b);
+        let low = first-low c.args.network.now i c.loop-job.job b in
+        c.is_within.ensures.0 c.if-is_within.true i low (c.preds.ensures i low ∙ b);
   };
   lowest = λ i f. elim (cases_lt i c.loop-job.job) [ inl below ↦ absurd (c.loop-job.invariant i f.job.0 below f) | inr h ↦ h ];
 }

@@ -1,4 +1,4 @@
-use Rattle.std.proofs.Common.{◌≡◌, arith, subst, sym, ℕ, ◌+◌, List}
+use Rattle.std.proofs.Common.{◌≡◌, arith, subst, sym, ◌+◌, List}
 use Rattle.std.proofs.lemmas.List.{take_at}
 use Rattle.sched_base.specs.declared.job_set.JobSet.{JobSet}
 use Rattle.rcpsp_model.specs.Project.{job_count}
