@@ -1,6 +1,6 @@
 ghost use Rattle.std.specs.Prelude.{◌≡◌, ℕ, ◌<◌, ◌≤◌, ◌↔◌, IsTrue};
 ghost use Rattle.rcpsp_model.specs.Project.{IsJob, IsMode, IsRenewable, IsNonrenewable, request, need};
-ghost use Rattle.rcpsp_model.specs.Modes.{TakesNoMore, TakesLess, IsInefficientBy};
+ghost use Rattle.rcpsp_model.specs.Modes.{TakesNoMore, IsInefficientBy};
 
 use project_net::Project;
 
@@ -46,24 +46,13 @@ fn takes_no_more(p: &Project, job: u8, one: u8, other: u8) -> bool
         && needs_no_more(p, job, one, other)
 }
 
-/// Whether the job takes less in the one mode than in the other: less time, or less of some resource.
-fn takes_less(p: &Project, job: u8, one: u8, other: u8) -> bool
-    requires job { IsJob p.now job }
-    requires one { IsMode p.now job one }
-    requires other { IsMode p.now job other }
-    ensures { IsTrue result ↔ TakesLess p.now job one other }
-{
-    p.duration(job, one) < p.duration(job, other)
-        || !asks_no_more(p, job, other, one)
-        || !needs_no_more(p, job, other, one)
-}
-
-/// Whether the mode is inefficient by the other (Sprecher, Hartmann and Drexl 1997).
+/// Whether the mode is inefficient by the other: the other takes no more, and takes less or has the lower number
+/// (Sprecher, Hartmann and Drexl 1997).
 pub fn is_inefficient_by(p: &Project, job: u8, mode: u8, other: u8) -> bool
     requires job { IsJob p.now job }
     requires mode { IsMode p.now job mode }
     requires other { IsMode p.now job other }
     ensures { IsTrue result ↔ IsInefficientBy p.now job mode other }
 {
-    takes_no_more(p, job, other, mode) && (other < mode || takes_less(p, job, other, mode))
+    takes_no_more(p, job, other, mode) && (other < mode || !takes_no_more(p, job, mode, other))
 }

@@ -39,8 +39,9 @@ pub fn least_need(p: &Project, job: u8, resource: u8) -> u32
     ensures value { result ≡ least_need_of p.now job resource }
     ensures limit { result ≤ 1000000 }
 {
+    let modes = p.modes(job);
     let mut least = p.need(job, 1, resource);
-    for mode in 1..p.modes(job) {
+    for mode in 1..modes {
         let need = p.need(job, mode + 1, resource);
         if need < least {
             least = need;
@@ -67,8 +68,9 @@ pub fn least_work(p: &Project, job: u8, resource: u8) -> u64
     ensures value { result ≡ least_work_of p.now job resource }
     ensures limit { result ≤ 10000000000 }
 {
+    let modes = p.modes(job);
     let mut least = work(p, job, 1, resource);
-    for mode in 1..p.modes(job) {
+    for mode in 1..modes {
         let work = work(p, job, mode + 1, resource);
         if work < least {
             least = work;
