@@ -1,6 +1,7 @@
 //! The layout of a project text: what each part is, and reading it word by word and line by line.
 #![tactic(auto)]
 
+mod availabilities;
 mod content;
 mod fault;
 mod header;
@@ -8,6 +9,7 @@ pub mod laws;
 mod numbers;
 mod place;
 mod precedence;
+mod requests;
 mod rule;
 mod source;
 mod title;
