@@ -12,6 +12,7 @@ mod precedence;
 mod requests;
 mod rule;
 mod source;
+mod text;
 mod title;
 
 pub use content::{Amounts, Content, Header, JobRow};
@@ -20,3 +21,4 @@ pub use numbers::{CAP, number};
 pub use place::Place;
 pub use rule::Rule;
 pub use source::Source;
+pub use text::read_content;
