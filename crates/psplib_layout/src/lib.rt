@@ -5,6 +5,7 @@ mod availabilities;
 mod content;
 mod fault;
 mod header;
+mod job_line;
 pub mod laws;
 mod numbers;
 mod place;
