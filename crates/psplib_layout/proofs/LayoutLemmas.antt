@@ -1,17 +1,18 @@
 -- Each part, and the whole layout, is read exactly where the lines have it.
-use Rattle.std.proofs.Common.{◌≡◌, ℕ, ◌+◌, ◌≤◌, ◌==◌, Bool, true, false, cond, List, [], ◌∷◌, ◌++◌, length, map, Ok, codes, refl, sym, ap, subst, ◌∙◌, arith, length-append}
+use Rattle.std.proofs.Common.{◌≡◌, ℕ, ◌+◌, ◌≤◌, ◌==◌, Bool, true, false, cond, List, [], ◌∷◌, ◌++◌, length, map, All, Ok, codes, refl, sym, ap, subst, ◌∙◌, arith, length-append}
 use Rattle.std.proofs.lemmas.Bool.Decides.{nat_tests}
 use Rattle.std.proofs.lemmas.List.{nil_from_length}
+use Rattle.std.proofs.lemmas.List.Elements.{All-from_recursion, All-weaker}
 use Rattle.rcpsp_model.specs.declared.parts.Mode.{Mode}
 use Rattle.psplib_lex.specs.Line.{Line}
 use Rattle.psplib_layout.specs.Reading.{◌>>=◌}
 use Rattle.psplib_layout.specs.Title.{has_title, titled, skipped_to, any_line, no_more}
 use Rattle.psplib_layout.specs.Part.{HasPart, part_in, HaveWords}
-use Rattle.psplib_layout.specs.Header.{Header, header_in}
-use Rattle.psplib_layout.specs.Precedence.{JobRow, rows_numbers, AreRows, all_rows}
+use Rattle.psplib_layout.specs.Header.{Header, HasTitle, NoneHasTitle, header_in}
+use Rattle.psplib_layout.specs.Precedence.{JobRow, rows_numbers, IsRow, AreRows, all_rows}
 use Rattle.psplib_layout.specs.Requests.{all_modes_numbers, AreModes, all_modes}
 use Rattle.psplib_layout.specs.Availabilities.{Amounts, AreAmounts, all_amounts}
-use Rattle.psplib_layout.specs.Layout.{Content, ReadsPrecedence, ReadsRequests, ReadsAvailabilities, ReadsLayout, ListsAmounts, HasAmounts, has_no_resource, mode_counts, no_amounts, precedence_in, requests_in, listed_in, availabilities_in, layout_in}
+use Rattle.psplib_layout.specs.Layout.{Content, ReadsPrecedence, ReadsRequests, ReadsAvailabilities, ReadsLayout, ListsAmounts, HasAmounts, has_no_resource, mode_counts, no_amounts, rows_begin_in, precedence_in, requests_in, listed_in, availabilities_in, layout_in}
 use Rattle.psplib_layout.proofs.Steps.{bind_ok, ok_is}
 use Rattle.psplib_layout.proofs.Titles.{titled_found, skipped_found, skipped_again, any_found, nothing_left}
 use Rattle.psplib_layout.proofs.Whole.{part_found, part_again, words_back}
@@ -22,30 +23,59 @@ use Rattle.psplib_layout.proofs.HeaderLemmas.{header_found, header_again}
 
 -- ---- the precedence part
 
-pub precedence_found : (end : ℕ) (header : Header) (lines rest : List Line) (rows : List JobRow) → precedence_in end header lines ≡ Ok (rows, rest) → ReadsPrecedence header lines rows rest
-unfolding precedence_in
-precedence_found end header lines rest rows e =
+-- the lines up to the first row
+pub record Begun (lines rest : List Line) : Type 0 where
+  pub unread : List Line
+  pub title : Line
+  pub heading : Line
+  pub lines_are : lines ≡ unread ++ (title ∷ heading ∷ rest)
+  pub first : NoneHasTitle (codes "PRECEDENCERELATIONS:") unread
+  pub title_is : HasTitle (codes "PRECEDENCERELATIONS:") title
+
+begun_found : (end : ℕ) (lines rest : List Line) → rows_begin_in end lines ≡ Ok rest → Begun lines rest
+unfolding rows_begin_in
+begun_found end lines rest e =
     let key = codes "PRECEDENCERELATIONS:" in
-    let a = bind_ok (skipped_to end key lines) (λ t. any_line end t >>= λ h. any_line end h >>= λ r. part_in end (all_rows header.jobs) r) (rows, rest) e in
-    let b = bind_ok (any_line end a.0) (λ h. any_line end h >>= λ r. part_in end (all_rows header.jobs) r) (rows, rest) a.2 in
-    let c = bind_ok (any_line end b.0) (λ r. part_in end (all_rows header.jobs) r) (rows, rest) b.2 in
+    let a = bind_ok (skipped_to end key lines) (λ t. any_line end t >>= λ h. any_line end h) rest e in
+    let b = bind_ok (any_line end a.0) (λ h. any_line end h) rest a.2 in
     let s = skipped_found end key lines a.0 a.1 in
     let t = any_found end a.0 b.0 b.1 in
-    let h = any_found end b.0 c.0 c.1 in
-    let p = part_found end (all_rows header.jobs) c.0 rows rest c.2 in
-    let r = rows_found header.jobs header.jobs 1 512 p.numbers rows p.stands in
+    let h = any_found end b.0 rest b.2 in
     let more : s.more ≡ b.0 = let same : s.title ∷ s.more ≡ t.line ∷ b.0 = sym s.rest_is ∙ t.lines_are in cc in
     record {
       unread = s.unread;
       title = s.title;
       heading = h.line;
-      behind = c.0;
       lines_are = s.lines_are ∙ ap (λ (ls : List Line). s.unread ++ (s.title ∷ ls)) (more ∙ h.lines_are);
       first = s.none;
       title_is = s.titled;
-      part = subst (λ (ns : List ℕ). HasPart ns c.0 rest) r.same p.part;
+    }
+
+pub begun_again : (end : ℕ) (lines rest : List Line) → Begun lines rest → rows_begin_in end lines ≡ Ok rest
+unfolding rows_begin_in
+begun_again end lines rest h = rw (h.lines_are, skipped_again end (codes "PRECEDENCERELATIONS:") h.unread h.title (h.heading ∷ rest) h.first h.title_is) refl
+
+pub precedence_found : (end : ℕ) (header : Header) (lines rest : List Line) (rows : List JobRow) → precedence_in end header lines ≡ Ok (rows, rest) → ReadsPrecedence header lines rows rest
+unfolding precedence_in
+precedence_found end header lines rest rows e =
+    let a = bind_ok (rows_begin_in end lines) (λ r. part_in end (all_rows header.jobs) r) (rows, rest) e in
+    let b = begun_found end lines a.0 a.1 in
+    let p = part_found end (all_rows header.jobs) a.0 rows rest a.2 in
+    let r = rows_found header.jobs header.jobs 1 512 p.numbers rows p.stands in
+    record {
+      unread = b.unread;
+      title = b.title;
+      heading = b.heading;
+      behind = a.0;
+      lines_are = b.lines_are;
+      first = b.first;
+      title_is = b.title_is;
+      part = subst (λ (ns : List ℕ). HasPart ns a.0 rest) r.same p.part;
       limits = record { count = r.count; each = r.each; modes = r.modes };
     }
+
+pub begun : (header : Header) (lines rest : List Line) (rows : List JobRow) (h : ReadsPrecedence header lines rows rest) → Begun lines h.behind
+begun header lines rest rows h = record { unread = h.unread; title = h.title; heading = h.heading; lines_are = h.lines_are; first = h.first; title_is = h.title_is }
 
 some_numbers : (job : ℕ) (rows : List JobRow) → 1 ≤ length rows → 1 ≤ length (rows_numbers job rows)
 some_numbers job [] h = absurd (omega arith)
@@ -57,7 +87,7 @@ precedence_again end header lines rest rows some words h =
     let all = words_back h.unread (h.title ∷ h.heading ∷ h.behind) (subst HaveWords h.lines_are words) in
     let numbers = some_numbers 1 rows (omega (arith, h.limits.count)) in
     let stands = rows_again header.jobs header.jobs 1 512 rows h.limits.count h.limits.each h.limits.modes in
-    rw (h.lines_are, skipped_again end (codes "PRECEDENCERELATIONS:") h.unread h.title (h.heading ∷ h.behind) h.first h.title_is) (part_again end (all_rows header.jobs) h.behind rows rest (rows_numbers 1 rows) numbers all.1.1 h.part stands)
+    rw (begun_again end lines h.behind (begun header lines rest rows h)) (part_again end (all_rows header.jobs) h.behind rows rest (rows_numbers 1 rows) numbers all.1.1 h.part stands)
 
 -- ---- the requests part
 
@@ -211,3 +241,12 @@ layout_again end lines content words h =
     let w3 : HaveWords h.behind_requests = part_rest _ r.behind h.behind_requests r.part (subst HaveWords r.lines_are w2).1.1 in
     let some : 1 ≤ length content.rows = omega (arith, p.limits.count, e.some_job) in
     rw (header_again end lines h.behind_header content.header e, precedence_again end content.header h.behind_header h.behind_precedence content.rows e.some_job w1 p, requests_again end content.header content.rows h.behind_precedence h.behind_requests content.modes some w2 r, availabilities_again end content.header h.behind_requests [] content.amounts w3 h.availabilities) refl
+
+-- ---- limits of what was read
+
+pub few_rows : (end : ℕ) (header : Header) (lines rest : List Line) (rows : List JobRow) → header.jobs ≤ 128 → precedence_in end header lines ≡ Ok (rows, rest) → length rows ≤ 128
+few_rows end header lines rest rows few e = omega (arith, (precedence_found end header lines rest rows e).limits.count)
+
+pub few_modes : (end : ℕ) (header : Header) (lines rest : List Line) (rows : List JobRow) → precedence_in end header lines ≡ Ok (rows, rest) → All (λ row. row.modes ≤ 16) rows
+few_modes end header lines rest rows e =
+    All-weaker (IsRow header.jobs) (λ (row : JobRow). row.modes ≤ 16) (λ row limits. limits.few_modes) rows (All-from_recursion (IsRow header.jobs) rows (precedence_found end header lines rest rows e).limits.each)

@@ -16,3 +16,4 @@ pub mod TextLemmas
 pub mod Loops
 pub mod RowSteps
 pub mod ModeSteps
+pub mod JobLines

@@ -1,6 +1,6 @@
 -- The content of a text is read exactly where it has one, and there is one alone.
 use Rattle.std.proofs.Common.{◌≡◌, ℕ, ◌≤◌, ◌<◌, Bool, true, false, cond, ltb, List, length, Ok, sym, ◌∙◌, refl}
-use Rattle.std.proofs.lemmas.Bool.{ltb-false, le-ltb}
+use Rattle.std.proofs.lemmas.Bool.{ltb-false, le-ltb, lt-ltb}
 use Rattle.std.proofs.lemmas.List.Elements.{recursion_from_All}
 use Rattle.rcpsp_model.specs.Project.{Project}
 use Rattle.psplib_lex.specs.declared.lexer.TheConstants.{MOST_BYTES}
@@ -36,3 +36,11 @@ pub one_project : (text : List ℕ) (P Q : Project) → Reads text P → Reads t
 one_project text P Q h k =
     let same = one_content text h.content k.content h.has_content k.has_content in
     cc
+
+pub long_text : (text : List ℕ) → MOST_BYTES < length text → content_in text ≡ refusal TextTooLong 0
+unfolding content_in
+long_text text h = rw (lt-ltb MOST_BYTES (length text) h) refl
+
+pub short_text : (text : List ℕ) (lines : List Line) (end : ℕ) → length text ≤ MOST_BYTES → lines ≡ lines_of text → end ≡ end_line text → layout_in end lines ≡ content_in text
+unfolding content_in
+short_text text lines end few l e = rw (le-ltb MOST_BYTES (length text) few, l, e) refl

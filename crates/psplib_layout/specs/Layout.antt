@@ -91,11 +91,16 @@ project_of content = record {
 
 -- ---- reading it, up to the first fault
 
-unfoldable pub precedence_in : ℕ → Header → List Line → Result (List JobRow × List Line) Refusal
-precedence_in end header lines = do
+-- the lines behind the title and the heading of the precedence part
+unfoldable pub rows_begin_in : ℕ → List Line → Result (List Line) Refusal
+rows_begin_in end lines = do
   title ← skipped_to end (codes "PRECEDENCERELATIONS:") lines
   heading ← any_line end title
-  rows ← any_line end heading
+  any_line end heading
+
+unfoldable pub precedence_in : ℕ → Header → List Line → Result (List JobRow × List Line) Refusal
+precedence_in end header lines = do
+  rows ← rows_begin_in end lines
   part_in end (all_rows header.jobs) rows
 
 unfoldable pub requests_in : ℕ → Header → List JobRow → List Line → Result (List (List Mode) × List Line) Refusal

@@ -1,14 +1,15 @@
 -- A whole text: the project that it is, or its first refusal.
-use Rattle.std.specs.Prelude.{◌≡◌, ℕ, ◌+◌, ◌-◌, ◌≤◌, ◌⊎◌, List, [], ◌∷◌, ◌++◌, length, take, count_by, nat_lt, Result, Err, if◌then◌else◌}
+use Rattle.std.specs.Prelude.{◌≡◌, ℕ, ◌+◌, ◌-◌, ◌≤◌, ◌⊎◌, List, [], ◌∷◌, ◌++◌, length, take, count_by, nat_lt, Result, Ok, Err, if◌then◌else◌}
 use Rattle.psplib_lex.specs.declared.lexer.TheConstants.{MOST_BYTES}
 use Rattle.psplib_lex.specs.Line.{Line, is_line_end, lines_of}
 use Rattle.rcpsp_model.specs.Project.{Project, IsAcyclic}
 use Rattle.rcpsp_model.specs.Chain.{IsChain, IsLeast}
 use Rattle.psplib_layout.specs.declared.fault.Fault.TheVariants.{TextTooLong, Cycle}
 use Rattle.psplib_layout.specs.declared.fault.Refusal.{Refusal}
-use Rattle.psplib_layout.specs.Reading.{refusal}
+use Rattle.psplib_layout.specs.Reading.{◌>>=◌, refusal}
+use Rattle.psplib_layout.specs.Header.{header_in}
 use Rattle.psplib_layout.specs.Precedence.{JobRow, rows_numbers}
-use Rattle.psplib_layout.specs.Layout.{Content, ReadsLayout, layout_in, project_of}
+use Rattle.psplib_layout.specs.Layout.{Content, ReadsLayout, rows_begin_in, layout_in, project_of}
 
 -- the text has this content
 pub record HasContent (text : List ℕ) (content : Content) : Type 0 where
@@ -45,6 +46,13 @@ line_of_word (line ∷ lines) i = if nat_lt i (length line.words) then line.numb
 abbrev pub row_line : List Line → List JobRow → ℕ → ℕ
 row_line lines rows job = line_of_word lines (length (rows_numbers 1 (take (job - 1) rows)))
 
+-- the line of a job's number in the precedence part of a text with these rows
+unfoldable pub job_line_in : ℕ → List Line → List JobRow → ℕ → Result ℕ Refusal
+job_line_in end lines rows job = do
+  header ← header_in end lines
+  begin ← rows_begin_in end header.1
+  Ok (row_line begin rows job)
+
 -- the text has a content with a cycle, and this is the line of the lowest job that lies on one
 pub record HasCycle (text : List ℕ) (f : Refusal) : Type 0 where
   pub content : Content
@@ -52,7 +60,7 @@ pub record HasCycle (text : List ℕ) (f : Refusal) : Type 0 where
   pub job : ℕ
   pub lowest : IsLeast (IsOnCycle (project_of content)) job
   pub fault_is : f.fault ≡ Cycle
-  pub line_is : f.line ≡ row_line has_content.layout.precedence.behind content.rows job
+  pub line_is : job_line_in (end_line text) (lines_of text) content.rows job ≡ Ok f.line
 
 -- this is the first refusal of the text
 abbrev pub IsFirstRefusal : List ℕ → Refusal → Type 0

@@ -1,7 +1,7 @@
 //! What the definitions of the layout imply, apart from any code.
 
 ghost use Rattle.std.specs.Prelude.{◌≡◌, ◌↔◌, ◌≤◌, ℕ, List, length, Ok, Err};
-ghost use Rattle.psplib_lex.specs.Line.{Line};
+ghost use Rattle.psplib_lex.specs.Line.{Line, lines_of};
 ghost use Rattle.rcpsp_model.specs.declared.parts.Mode.{Mode};
 ghost use Rattle.rcpsp_model.specs.Project.{Project};
 ghost use Rattle.psplib_layout.specs.declared.fault.Refusal.{Refusal};
@@ -13,7 +13,7 @@ ghost use Rattle.psplib_layout.specs.Precedence.{JobRow, all_rows};
 ghost use Rattle.psplib_layout.specs.Requests.{all_modes};
 ghost use Rattle.psplib_layout.specs.Availabilities.{Amounts, all_amounts};
 ghost use Rattle.psplib_layout.specs.Layout.{Content, ReadsPrecedence, ReadsRequests, ReadsAvailabilities, ReadsLayout, precedence_in, requests_in, availabilities_in, layout_in};
-ghost use Rattle.psplib_layout.specs.Text.{HasContent, Reads, content_in};
+ghost use Rattle.psplib_layout.specs.Text.{HasContent, Reads, content_in, row_line, job_line_in};
 
 /// The header is read exactly where the lines have one.
 pub fn header_is_read()
@@ -69,4 +69,10 @@ pub fn first_fault_is_refused()
         → (read_wanted end (all_modes R N job counts) lines ≡ Err f) ↔ FirstFault end (all_modes R N job counts) lines f }
     ensures amounts { (end R N : ℕ) (lines : List Line) (f : Refusal)
         → (read_wanted end (all_amounts R N) lines ≡ Err f) ↔ FirstFault end (all_amounts R N) lines f }
+{}
+
+/// In a text that has a content each job's number stands on a line.
+pub fn job_lines_are_read()
+    ensures { (end : ℕ) (text : List ℕ) (content : Content) (job : ℕ) (h : HasContent text content)
+        → job_line_in end (lines_of text) content.rows job ≡ Ok (row_line h.layout.precedence.behind content.rows job) }
 {}

@@ -1,5 +1,5 @@
 ghost use Rattle.std.specs.Prelude.{◌≡◌, ◌+◌, ◌≤◌, min, Ok};
-ghost use Rattle.psplib_layout.specs.Layout.{precedence_in};
+ghost use Rattle.psplib_layout.specs.Layout.{rows_begin_in, precedence_in};
 ghost use Rattle.psplib_layout.specs.Part.{part_in};
 ghost use Rattle.psplib_layout.specs.Place.{Gives, rest_at};
 ghost use Rattle.psplib_layout.specs.Precedence.{mode_count, successor, job_row, job_rows, all_rows};
@@ -102,6 +102,17 @@ impl Source<'_> {
         Ok((List::from_vec(rows), at))
     }
 
+    /// The place where the rows of the precedence part begin: behind its title and one line more.
+    #[tactic(auto, unfolding(crate::specs::Layout::rows_begin_in))]
+    pub(crate) fn rows_begin_at(&self, at: Place) -> Result<Place, ReadError>
+        ensures { Gives (λ x. rest_at self.now.words x) result
+            (rows_begin_in self.now.end (rest_at self.now.words at)) }
+    {
+        let title = self.first_with(at, b"PRECEDENCERELATIONS:")?;
+        let heading = self.any_line_at(title)?;
+        self.any_line_at(heading)
+    }
+
     /// The precedence part: a row for each job, and the place behind it.
     #[tactic(auto, unfolding(crate::specs::Layout::precedence_in))]
     pub fn precedence_at(
@@ -114,9 +125,7 @@ impl Source<'_> {
         ensures { Gives (λ x. (x.0, rest_at self.now.words x.1)) result
             (precedence_in self.now.end header (rest_at self.now.words at)) }
     {
-        let title = self.first_with(at, b"PRECEDENCERELATIONS:")?;
-        let heading = self.any_line_at(title)?;
-        let rows = self.any_line_at(heading)?;
+        let rows = self.rows_begin_at(at)?;
         self.rows_at(alloc, rows, header.jobs)
     }
 }
