@@ -2,6 +2,7 @@ ghost use Rattle.std.specs.Prelude.{◌≡◌, ◌≤◌, ℕ, None, IfSome};
 ghost use Rattle.rcpsp_model.specs.Schedule.{end_of, entries};
 ghost use Rattle.rcpsp_model.specs.Plan.{IsFirstPlan};
 ghost use Rattle.rcpsp_model.specs.Claim.{Claim, NoneIsFeasible};
+ghost use Rattle.proof_log.specs.Report.{IsReport};
 ghost use Rattle.schedule_cli.specs.Solve.{IsLongestChain, IsSingleMode, IsVerdictOf};
 
 use crate::chain::{is_single_mode, longest_chain};
@@ -43,6 +44,7 @@ pub fn verdict_of(p: &Project, plan: &Option<Schedule>) -> Verdict
     requires none { plan.now ≡ None → IsSingleMode p.now → NoneIsFeasible p.now }
     ensures value { (h : ℕ) × IsLongestChain p.now h × IsVerdictOf p.now h plan.now result }
     ensures claim { Claim p.now result plan.now }
+    ensures text { IsReport (record { verdict = result; best = plan.now; log = None }) }
 {
     p.known();
     first_plan();
