@@ -1,11 +1,21 @@
 -- Chains through the jobs up to a number, and all chains.
-use Rattle.std.proofs.Common.{◌≡◌, ℕ, zero, suc, ◌+◌, ◌<◌, ◌≤◌, ◌⊎◌, inl, inr, arith, sym, ap, subst, ◌∙◌, true, ◌||◌, ◌&&◌, List, add-one}
+use Rattle.std.proofs.Common.{Bool, length, ◌≡◌, ℕ, zero, suc, ◌+◌, ◌<◌, ◌≤◌, ◌⊎◌, inl, inr, arith, sym, ap, subst, ◌∙◌, true, ◌||◌, ◌&&◌, List, add-one}
 use Rattle.std.proofs.lemmas.Bool.{cases_eq, or_cases, or_left, or_right, and_parts, and_from}
 use Rattle.sched_base.specs.declared.job_set.JobSet.{JobSet}
 use Rattle.sched_base.specs.JobSet.{member}
 use Rattle.rcpsp_model.specs.Project.{Project, Before, IsJob, job_count}
 use Rattle.project_net.specs.Flat.{row}
-use Rattle.project_net.specs.Order.{Leads, pair, on, leads_via, AreVia, AreDescendants, Merges}
+use Rattle.project_net.specs.Order.{Leads, pair, on, AreDescendants, Merges}
+
+-- a chain leads from i to j whose jobs between are at most k (Warshall 1962)
+abbrev pub leads_via : Project → ℕ → ℕ → ℕ → Bool
+leads_via P zero i j = is_before P i j
+leads_via P (suc k) i j = leads_via P k i j || (leads_via P k i (suc k) && leads_via P k (suc k) j)
+
+-- for each job the set of the jobs that chains through jobs up to k lead to
+pub record AreVia (P : Project) (k : ℕ) (rows : List JobSet) : Type 0 where
+  pub size : length rows ≡ job_count P
+  pub sets : (i j : ℕ) → IsJob P i → 1 ≤ j → member (row rows i) j ≡ leads_via P k i j
 
 pub Leads-trans : (P : Project) {i j k : ℕ} → Leads P i j → Leads P j k → Leads P i k
 Leads-trans P (pair b) l = on b l
