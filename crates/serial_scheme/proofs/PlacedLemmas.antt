@@ -1,6 +1,6 @@
 -- What holds of entries that were placed in turn.
 use Rattle.std.proofs.Common.{◌≡◌, ℕ, zero, suc, ◌+◌, ◌*◌, ◌-◌, ◌<◌, ◌≤◌, max, ◌⊎◌, inl, inr, arith, refl, sym, ap, subst, ◌∙◌, List, [], ◌∷◌, ◌++◌, length, length-append, append_assoc, replicate, Bool, true, false, cond, eqb, ◌||◌}
-use Rattle.std.specs.Prelude.{filter, All}
+use Rattle.std.specs.Prelude.{filter, All, Option, Some, IfSome}
 use Rattle.std.proofs.lemmas.Bool.{cases_eq, eq-eqb, ne_eqb}
 use Rattle.std.proofs.lemmas.List.{append-nil, length-replicate}
 use Rattle.sched_base.specs.declared.job_set.JobSet.{JobSet}
@@ -20,6 +20,7 @@ use Rattle.rcpsp_model.proofs.Successors.{before-job}
 use Rattle.rcpsp_model.proofs.FrontLemmas.{in_turn, keeps-push, end-push, duration-limit, fits-past_end, fits-executable, part-jobs, spot, each}
 use Rattle.rcpsp_model.proofs.DominanceLemmas.{sound-push}
 use Rattle.rcpsp_model.proofs.PlanLemmas.{IsPlan}
+use Rattle.profiles.specs.Room.{FitsFrom}
 use Rattle.serial_scheme.specs.Priority.{IsOpen, IsMostUrgent, done_at}
 use Rattle.serial_scheme.proofs.JobSteps.{all-placed}
 
@@ -222,3 +223,9 @@ serial-from P a Rule placed F s none = record {
   in_turn = s.turn;
   whole = λ j job. sym (s.set.same j job.0) ∙ all-placed P a (member placed) none j job;
 }
+
+pub least-from : (P : Project) (F es : List Entry) (j m n t : ℕ) (o : Option ℕ) → IfSome o (IsLeast (FitsFrom P F j m n)) → o ≡ Some t → n ≡ done_at P es j → es ≡ F →
+    IsLeast (λ u. (done_at P F j ≤ u) × Fits P F j m u) t
+least-from P F es j m n t o least is done same =
+    let h : IfSome (Some t) (IsLeast (FitsFrom P F j m n)) = subst (λ (x : Option ℕ). IfSome x (IsLeast (FitsFrom P F j m n))) is least in
+    subst (λ x. IsLeast (λ u. (x ≤ u) × Fits P F j m u) t) (done ∙ ap (λ (xs : List Entry). done_at P xs j) same) h

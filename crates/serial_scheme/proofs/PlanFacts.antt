@@ -1,6 +1,6 @@
 -- What holds of every plan by a mode rule, and when there is none.
 use Rattle.std.proofs.Common.{◌≡◌, ℕ, ◌+◌, ◌*◌, ◌<◌, ◌≤◌, ◌⊎◌, inl, inr, arith, refl, sym, ap, subst, ◌∙◌, List, [], ◌∷◌, ◌++◌, length}
-use Rattle.std.specs.Prelude.{Option, Some, None, MatchOption, All, Contains}
+use Rattle.std.specs.Prelude.{Option, Some, None, MatchOption, IfSome, IfNone, All, Contains}
 use Rattle.rcpsp_model.specs.declared.parts.Entry.{Entry}
 use Rattle.rcpsp_model.specs.declared.parts.Placing.{Placing}
 use Rattle.rcpsp_model.specs.Project.{Project, job_count, nonrenewables, IsJob, IsMode, IsAcyclic, IsProject}
@@ -103,11 +103,11 @@ plan-by rule P F s serial budgets jobs agrees = record { placed = F; serial = se
 
 -- Which plan is the first.
 
-pub is_plan : (Q : List Placing → Type 0) (A : Type 0) (o : Option (List Placing)) (s : List Placing) → o ≡ Some s → MatchOption o A Q → Q s
-is_plan Q A o s e m = let h : MatchOption (Some s) A Q = subst (λ (x : Option (List Placing)). MatchOption x A Q) e m in h
+pub some-case : {X : Type 0} (Q : X → Type 0) (A : Type 0) (o : Option X) (x : X) → o ≡ Some x → MatchOption o A Q → Q x
+some-case {X = X} Q A o x e m = let h : MatchOption (Some x) A Q = subst (λ (y : Option X). MatchOption y A Q) e m in h
 
-pub is_none : (Q : List Placing → Type 0) (A : Type 0) (o : Option (List Placing)) → o ≡ None → MatchOption o A Q → A
-is_none Q A o e m = let h : MatchOption None A Q = subst (λ (x : Option (List Placing)). MatchOption x A Q) e m in h
+pub none-case : {X : Type 0} (Q : X → Type 0) (A : Type 0) (o : Option X) → o ≡ None → MatchOption o A Q → A
+none-case {X = X} Q A o e m = let h : MatchOption None A Q = subst (λ (y : Option X). MatchOption y A Q) e m in h
 
 pub first-both : (P : Project) → IsAcyclic P → (r s : List Placing) → IsPlanBy P IsShortestMode r → IsPlanBy P IsCheapestMode s → end_of P (entries r) ≤ end_of P (entries s) → IsFirstPlan P (Some r)
 first-both P a r s p q le = inl (p, λ x y. subst (λ (z : List Placing). end_of P (entries r) ≤ end_of P (entries z)) (plan_by-one Cheapest P a s x q y) le)
@@ -121,3 +121,23 @@ first-alone P r p none = inl (p, λ x y. absurd (none x y))
 pub second-or_none : (P : Project) (o : Option (List Placing)) → HasNoPlanBy P IsShortestMode → MatchOption o (HasNoPlanBy P IsCheapestMode) (IsPlanBy P IsCheapestMode) → IsFirstPlan P o
 second-or_none P None none m = (none, m)
 second-or_none P (Some s) none m = inr (m, λ x y. absurd (none x y))
+
+-- What the first plan tells.
+
+first-facts : (P : Project) → IsProject P → (s : List Placing) → IsFirstPlan P (Some s) → PlanFacts P s
+first-facts P project s (inl f) = plan-facts P project IsShortestMode s f.0
+first-facts P project s (inr f) = plan-facts P project IsCheapestMode s f.0
+
+pub first-feasible : (P : Project) → IsProject P → (o : Option (List Placing)) → IsFirstPlan P o → IfSome o (IsFeasible P)
+first-feasible P project None f = tt
+first-feasible P project (Some s) f = (first-facts P project s f).feasible
+
+pub first-end : (P : Project) → IsProject P → (o : Option (List Placing)) → IsFirstPlan P o → IfSome o (λ s. end_of P (entries s) ≤ 1280000)
+first-end P project None f = tt
+first-end P project (Some s) f = (first-facts P project s f).end
+
+-- what follows where the shortest modes give no plan follows where there is no first plan
+pub none-first : (P : Project) (A : Type 0) (o r : Option (List Placing)) → IsFirstPlan P r → MatchOption o (HasNoPlanBy P IsShortestMode) (IsPlanBy P IsShortestMode) → IfNone o A → IfNone r A
+none-first P A o (Some s) f m h = tt
+none-first P A None None f m h = h
+none-first P A (Some s) None f m h = absurd (f.0 s m)

@@ -64,6 +64,7 @@ pub fn first_plan(alloc: Global, p: &Project) -> Result<Option<Schedule>, NoMemo
     // Without a nonrenewable resource only a job that has no executable mode keeps the rules from a plan.
     ensures infeasible { IfOk result (λ plan. IfNone plan (nonrenewables p.now ≡ 0 → NoneIsFeasible p.now)) }
 {
+    p.known();
     let shortest = plan_by(alloc, p, ModeRule::Shortest)?;
     let cheapest = plan_by(alloc, p, ModeRule::Cheapest)?;
     Ok(earlier(p, shortest, cheapest))
