@@ -14,9 +14,9 @@ use Rattle.rcpsp_model.specs.declared.parts.Mode.{Mode}
 use Rattle.rcpsp_model.specs.Project.{Project, Activity, no_activity, job_count, successors_of, is_before, IsJob, IsWithinLimits, IsActivityWithinLimits}
 use Rattle.project_net.specs.declared.draft.Draft.{Draft}
 use Rattle.project_net.specs.declared.draft.DraftJob.{DraftJob}
-use Rattle.project_net.specs.Draft.{has, activity_of, project_of, IsJobWithinLimits, HasSuccessorsWithin, IsWithinLimits as IsDraftWithinLimits}
+use Rattle.project_net.specs.Draft.{has, activity_of, project_of, IsJobWithinLimits, HasSuccessorsWithin, IsWithinLimits as IsDraftWithinLimits, no_job}
 use Rattle.project_net.specs.Flat.{ModeList, row, activity_in, project_in, Agrees}
-use Rattle.project_net.specs.Flatten.{no_job, all_modes, AreFirstPlaces, AreSuccessorSets, AreTurned}
+use Rattle.project_net.specs.Flatten.{all_modes, AreFirstPlaces, AreSuccessorSets, AreTurned}
 use Rattle.project_net.proofs.FlattenLemmas.{modes_between, length-all_modes_more}
 use Rattle.project_net.proofs.Ranges.{All-filter-range, ascending-filter, filter-range-same, has-filter-range, has-above}
 

@@ -11,3 +11,5 @@ pub mod Sets
 pub mod Taken
 pub mod TailLemmas
 pub mod EndLemmas
+pub mod RankLemmas
+pub mod RefusalLemmas

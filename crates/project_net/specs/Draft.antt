@@ -1,9 +1,12 @@
 -- Drafts of projects: the project that a draft describes, and the faults that it may have.
-use Rattle.std.specs.Prelude.{ℕ, ◌≤◌, ◌==◌, Bool, List, length, map, filter, sum_by, All}
+use Rattle.std.specs.Prelude.{ℕ, ◌≤◌, ◌==◌, Bool, List, [], length, map, filter, sum_by, All}
 use Rattle.std.specs.List.{list_any, range_with_len}
 use Rattle.rcpsp_model.specs.Project.{Project, Activity, IsModeWithinLimits}
 use Rattle.project_net.specs.declared.draft.Draft.{Draft}
 use Rattle.project_net.specs.declared.draft.DraftJob.{DraftJob}
+
+abbrev pub no_job : DraftJob
+no_job = record { modes = []; successors = [] }
 
 -- whether the number is in the list
 abbrev pub has : List ℕ → ℕ → Bool

@@ -1,15 +1,12 @@
 -- What the flat vectors made of a draft's jobs hold.
-use Rattle.std.specs.Prelude.{◌≡◌, ℕ, ◌+◌, ◌<◌, ◌≤◌, List, [], length, take, slice_index}
+use Rattle.std.specs.Prelude.{◌≡◌, ℕ, ◌+◌, ◌<◌, ◌≤◌, List, length, take, slice_index}
 use Rattle.std.specs.List.{flat_map, slice_index_or}
 use Rattle.sched_base.specs.declared.job_set.JobSet.{JobSet}
 use Rattle.sched_base.specs.JobSet.{member}
 use Rattle.rcpsp_model.specs.declared.parts.Mode.{Mode}
 use Rattle.project_net.specs.declared.draft.DraftJob.{DraftJob}
-use Rattle.project_net.specs.Draft.{has}
+use Rattle.project_net.specs.Draft.{has, no_job}
 use Rattle.project_net.specs.Flat.{row}
-
-abbrev pub no_job : DraftJob
-no_job = record { modes = []; successors = [] }
 
 -- the modes of the jobs, one job's after another's
 abbrev pub all_modes : List DraftJob → List Mode

@@ -1,5 +1,6 @@
 pub mod Draft
 pub mod Order
+pub mod Refusal
 pub mod Tails
 pub mod Flat
 pub mod Flatten

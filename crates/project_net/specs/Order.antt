@@ -1,5 +1,5 @@
 -- Chains of pairs, cycles, and orders of the jobs.
-use Rattle.std.specs.Prelude.{◌≡◌, ℕ, zero, suc, ◌+◌, ◌<◌, ◌≤◌, ◌↔◌, ◌||◌, ◌&&◌, Bool, true, false, List, [], ◌∷◌, ◌++◌, length, slice_index, SomeIndex}
+use Rattle.std.specs.Prelude.{◌≡◌, ℕ, zero, suc, ◌+◌, ◌-◌, ◌<◌, ◌≤◌, ◌↔◌, ◌||◌, ◌&&◌, Bool, true, false, List, [], ◌∷◌, ◌++◌, length, slice_index, SomeIndex}
 use Rattle.sched_base.specs.declared.job_set.JobSet.{JobSet}
 use Rattle.sched_base.specs.JobSet.{member}
 use Rattle.rcpsp_model.specs.Project.{Project, Before, is_before, IsJob, job_count}
@@ -76,3 +76,17 @@ pub record IsLowestInOwnSet (rows : List JobSet) (j : ℕ) : Type 0 where
   pub high : j ≤ length rows
   pub own : member (row rows j) j ≡ true
   pub lowest : (i : ℕ) → 1 ≤ i → i < j → member (row rows i) i ≡ false
+
+-- distinct numbers from 1 to n
+pub record AreApart (order : List ℕ) (n : ℕ) : Type 0 where
+  pub numbers : (a : ℕ) → a < length order → (1 ≤ slice_index order a) × (slice_index order a ≤ n)
+  pub apart : (a b : ℕ) → a < length order → b < length order → slice_index order a ≡ slice_index order b → a ≡ b
+
+-- the first so many jobs of the order have their places in it, from 1
+abbrev pub AreFirstRanks : List ℕ → List ℕ → ℕ → Type 0
+AreFirstRanks order ranks done = (a : ℕ) → a < done → slice_index ranks (slice_index order a - 1) ≡ a + 1
+
+-- the rank of each job
+pub record AreRanks (P : Project) (ranks : List ℕ) : Type 0 where
+  pub size : length ranks ≡ job_count P
+  pub each : (j : ℕ) → IsJob P j → IsRank P j (slice_index ranks (j - 1)) × (slice_index ranks (j - 1) ≤ job_count P)

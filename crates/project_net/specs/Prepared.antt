@@ -1,13 +1,14 @@
 -- What a project keeps beside its network.
 use Rattle.std.specs.Prelude.{ℕ, List}
 use Rattle.rcpsp_model.specs.Project.{Project, IsProject}
-use Rattle.project_net.specs.Order.{IsLowestFirst, IsTopological}
+use Rattle.project_net.specs.Order.{AreRanks, IsLowestFirst, IsTopological}
 use Rattle.project_net.specs.Tails.{AreLeastDurations, AreTails}
 
--- a project with its jobs in order, their least durations and their tails
-pub record IsPrepared (P : Project) (order durations tails : List ℕ) : Type 0 where
+-- a project with its jobs in order, their least durations, tails and ranks
+pub record IsPrepared (P : Project) (order durations tails places : List ℕ) : Type 0 where
   pub project : IsProject P
   pub lowest_first : IsLowestFirst P order
   pub topological : IsTopological P order
   pub least : AreLeastDurations P durations
   pub longest : AreTails P tails
+  pub ranks : AreRanks P places

@@ -11,8 +11,11 @@ mod project;
 mod reach;
 mod refusal;
 mod schedule;
+#[cfg(test)]
+mod tests;
 
 pub use draft::{BuildRefusal, Draft, DraftJob};
 pub use project::Project;
 pub use rcpsp_model::{Mode, Placing};
+pub use refusal::one_first_fault;
 pub use schedule::Schedule;

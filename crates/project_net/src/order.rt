@@ -1,7 +1,7 @@
-ghost use Rattle.std.specs.Prelude.{◌≡◌, ℕ, ◌≤◌, ◌↔◌, true, IsTrue, IfOk, IfSome, IfNone};
+ghost use Rattle.std.specs.Prelude.{◌≡◌, ℕ, ◌≤◌, ◌↔◌, length, true, IsTrue, IfOk, IfSome, IfNone};
 ghost use Rattle.sched_base.specs.JobSet.{member};
-ghost use Rattle.rcpsp_model.specs.Project.{IsAcyclic};
-ghost use Rattle.project_net.specs.Order.{IsFree, IsLowestFirst, IsLowestFree, IsTopological};
+ghost use Rattle.rcpsp_model.specs.Project.{IsAcyclic, job_count};
+ghost use Rattle.project_net.specs.Order.{AreApart, AreFirstRanks, AreRanks, IsFree, IsLowestFirst, IsLowestFree, IsTopological};
 
 use crate::network::Network;
 use sched_base::{Job, JobSet, NoMemory};
@@ -19,7 +19,8 @@ fn lowest_free(network: &Network, taken: JobSet) -> Option<u8>
     ensures some { IfSome result (IsLowestFree network.now (member taken)) }
     ensures none { IfNone result ((j : ℕ) → IsFree network.now (member taken) j → ⊥) }
 {
-    for job in 1..network.jobs() + 1 {
+    for place in 0..network.jobs() {
+        let job = place + 1;
         if !taken.has(Job(job)) && is_within(network.preds(job), taken) {
             return Some(job);
         }
@@ -41,4 +42,27 @@ pub fn jobs_in_order(alloc: Global, network: &Network) -> Result<Vec<u8>, NoMemo
         taken = taken.with(Job(next));
     }
     Ok(order)
+}
+
+/// Writes the place of each job in the order, from 1.
+fn number(order: &[u8], ranks: &mut [u8])
+    requires few { length order.now ≤ 128 }
+    requires none { AreFirstRanks order.now ranks.old 0 }
+    requires apart { AreApart order.now (length ranks.old) }
+    ensures { AreFirstRanks order.now ranks.new (length order.now) }
+{
+    for place in 0..order.len() {
+        ranks[order[place] as usize - 1] = place as u8 + 1;
+    }
+}
+
+/// For each job its place in the order, from 1.
+pub fn ranks(alloc: Global, network: &Network, order: &[u8]) -> Result<Vec<u8>, NoMemory>
+    requires lowest_first { IsLowestFirst network.now order.now }
+    requires topological { IsTopological network.now order.now }
+    ensures { IfOk result (λ v. AreRanks network.now v.items) }
+{
+    let mut ranks = vec![in alloc; 0; network.jobs() as usize]?;
+    number(order, &mut ranks);
+    Ok(ranks)
 }

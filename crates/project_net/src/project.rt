@@ -1,9 +1,9 @@
-ghost use Rattle.std.specs.Prelude.{◌≡◌, ℕ, ◌≤◌, length, All, IfOk};
+ghost use Rattle.std.specs.Prelude.{◌≡◌, ℕ, ◌≤◌, ◌↔◌, IsTrue, length, All, IfOk, IfErr, OnOk};
 
 use crate::chains::{least_durations, tails};
 use crate::draft::{BuildRefusal, Draft};
 use crate::network::Network;
-use crate::order::jobs_in_order;
+use crate::order::{jobs_in_order, ranks};
 use crate::reach::lowest_on_cycle;
 use crate::refusal::first_refusal;
 use crate::schedule::Schedule;
@@ -20,6 +20,7 @@ pub struct Project {
     order: Vec<u8>,
     least_durations: Vec<u32>,
     tails: Vec<u32>,
+    ranks: Vec<u8>,
 }
 
 impl Model for Project {
@@ -30,7 +31,7 @@ impl Model for Project {
 
     ghost view = { λ p. p.network };
 
-    ghost invariant = { λ p. IsPrepared p.network p.order.items p.least_durations.items p.tails.items };
+    ghost invariant = { λ p. IsPrepared p.network p.order.items p.least_durations.items p.tails.items p.ranks.items };
 }
 
 impl Project {
@@ -38,7 +39,9 @@ impl Project {
     ghost use Rattle.rcpsp_model.specs.Schedule.{end_of, entries};
     ghost use Rattle.rcpsp_model.specs.Chain.{least_duration, IsTail};
     ghost use Rattle.sched_base.specs.JobSet.{member};
-    ghost use Rattle.project_net.specs.Draft.{IsWithinLimits as IsDraftWithinLimits, project_of};
+    ghost use Rattle.project_net.specs.Draft.{project_of};
+    ghost use Rattle.project_net.specs.Order.{IsLowestFirst, IsRank, IsTopological};
+    ghost use Rattle.project_net.specs.Refusal.{IsRefusal, IsSound};
 
     /// The project of a network without a cycle.
     fn prepare(alloc: Global, network: Network) -> Result<Project, NoMemory>
@@ -49,17 +52,21 @@ impl Project {
         let order = jobs_in_order(alloc, &network)?;
         let durations = least_durations(alloc, &network)?;
         let tails = tails(alloc, &network, order.as_slice(), durations.as_slice())?;
+        let ranks = ranks(alloc, &network, order.as_slice())?;
         Ok(Project {
             network,
             order,
             least_durations: durations,
             tails,
+            ranks,
         })
     }
 
     /// The project that a draft describes, or the first of its faults.
     pub fn build(alloc: Global, draft: Draft) -> Result<Project, BuildRefusal>
+        ensures sound { OnOk result (IsSound draft) }
         ensures ok { IfOk result (λ p. p ≡ project_of draft) }
+        ensures refused { IfErr result (IsRefusal draft) }
     {
         if let Some(refusal) = first_refusal(&draft) {
             return Err(refusal);
@@ -196,6 +203,45 @@ impl Project {
         ensures limit { result ≤ 1280000 }
     {
         self.tails[job as usize - 1]
+    }
+
+    /// The jobs in the order that repeatedly takes the lowest job whose predecessors were taken.
+    pub fn in_order(&self) -> &[u8]
+        ensures lowest_first { IsLowestFirst self.now result.now }
+        ensures topological { IsTopological self.now result.now }
+    {
+        self.order.as_slice()
+    }
+
+    /// The place of a job, from 1, in the order that repeatedly takes the lowest job whose predecessors were taken.
+    pub fn rank(&self, job: u8) -> u8
+        requires { IsJob self.now job }
+        ensures value { IsRank self.now job result }
+        ensures few { result ≤ job_count self.now }
+    {
+        self.ranks[job as usize - 1]
+    }
+
+    /// Whether a job has a mode of this number.
+    pub fn has_mode(&self, job: u8, mode: u8) -> bool
+        requires { IsJob self.now job }
+        ensures { IsTrue result ↔ IsMode self.now job mode }
+    {
+        1 <= mode && mode <= self.modes(job)
+    }
+
+    /// Whether a schedule gives each job one of its modes.
+    pub fn has_modes_of(&self, schedule: &Schedule) -> bool
+        requires { length schedule.now ≡ job_count self.now }
+        ensures { IsTrue result ↔ All (λ e. IsMode self.now e.job e.mode) (entries schedule.now) }
+    {
+        for done in 0..self.jobs() {
+            let place = schedule.place(done + 1);
+            if !self.has_mode(done + 1, place.mode) {
+                return false;
+            }
+        }
+        true
     }
 
     /// The greatest finish of a schedule.

@@ -1,7 +1,6 @@
 use Rattle.std.proofs.Common.{◌≡◌, ℕ, ◌≤◌, ◌<◌, length, get_or}
 use Rattle.sched_base.specs.JobSet.{member}
-use Rattle.project_net.specs.Draft.{has}
-use Rattle.project_net.specs.Flatten.{no_job}
+use Rattle.project_net.specs.Draft.{has, no_job}
 use Rattle.project_net.proofs.flatten.successor_sets.Given as goal
 
 abbrev pub invariant-loop-job : goal.invariant-loop-job
