@@ -4,6 +4,8 @@
 mod beside;
 mod capacity;
 mod profile;
+#[cfg(test)]
+mod tests;
 
 pub use profile::Profile;
 pub use rcpsp_model::Entry;

@@ -1,9 +1,10 @@
-ghost use Rattle.std.specs.Prelude.{◌≡◌, ◌+◌, ◌<◌, ◌≤◌, ◌↔◌, [], ◌∷◌, ◌++◌, IsOk, IfOk, OnOk, OnErr, IsTrue, IsSome, IfSome};
-ghost use Rattle.rcpsp_model.specs.Project.{IsJob, IsMode, IsRenewable};
-ghost use Rattle.rcpsp_model.specs.Schedule.{usage, AreOf, IsOf, KeepsCapacities};
+ghost use Rattle.std.specs.Prelude.{◌≡◌, ◌+◌, ◌<◌, ◌≤◌, ◌↔◌, [], ◌∷◌, ◌++◌, IsOk, IfOk, OnOk, OnErr, IsTrue, IsSome, IfSome, length};
+ghost use Rattle.rcpsp_model.specs.Project.{Project as ProjectValue, IsJob, IsMode, IsRenewable};
+ghost use Rattle.rcpsp_model.specs.Schedule.{usage, IsOf};
 ghost use Rattle.rcpsp_model.specs.Chain.{IsLeast};
 ghost use Rattle.rcpsp_model.specs.Modes.{IsExecutable};
 ghost use Rattle.rcpsp_model.specs.Tree.{Fits, entry_at};
+ghost use Rattle.profiles.specs.Placed.{IsProfileOf};
 ghost use Rattle.profiles.specs.Room.{FitsFrom};
 
 use crate::beside::{earliest_beside, fits_beside, usage_of};
@@ -31,9 +32,10 @@ impl Model for Profile {
 }
 
 impl Profile {
-    /// The profile without an entry; it takes no memory.
+    /// The profile without an entry, which is one of every project; it takes no memory.
     pub fn empty(alloc: Global) -> Self
-        ensures { result.entries ≡ [] }
+        ensures empty { result.entries ≡ [] }
+        ensures profile { (P : ProjectValue) → IsProfileOf P result }
     {
         Profile {
             entries: Vec::new(alloc),
@@ -43,6 +45,7 @@ impl Profile {
     /// Makes room for so many more entries.
     pub fn reserve(&mut self, more: usize) -> Result<(), NoMemory>
         ensures same { self.new.entries ≡ self.old.entries }
+        ensures profile { (P : ProjectValue) → IsProfileOf P self.old → IsProfileOf P self.new }
         ensures spare { OnOk result (more ≤ self.new.spare) }
         ensures err { OnErr result (self.new ≡ self.old) }
     {
@@ -58,17 +61,13 @@ impl Profile {
         mode: u8,
         start: u32,
     ) -> Result<(), NoMemory>
-        requires entries { AreOf project.now self.old.entries }
-        requires capacity { KeepsCapacities project.now self.old.entries }
+        requires profile { IsProfileOf project.now self.old }
         requires entry { IsOf project.now (entry_at job mode start) }
         requires fits { Fits project.now self.old.entries job mode start }
         ensures ok { OnOk result (self.new.entries ≡ self.old.entries ++ entry_at job mode start ∷ []) }
         ensures spare { 0 < self.old.spare → IsOk result × (self.new.spare + 1 ≡ self.old.spare) }
         ensures err { OnErr result (self.new ≡ self.old) }
-
-        // It stays a profile of the project.
-        ensures of { AreOf project.now self.new.entries }
-        ensures keeps { KeepsCapacities project.now self.new.entries }
+        ensures profile { IsProfileOf project.now self.new }
     {
         project.known();
         let entry = Entry { job, mode, start };
@@ -79,13 +78,19 @@ impl Profile {
         Ok(())
     }
 
-    /// A profile of the same entries.
-    pub fn try_copy(&self) -> Result<Self, NoMemory>
-        ensures { IfOk result (λ copy. copy.entries ≡ self.now.entries) }
+    /// A profile of the same entries, with room for so many more.
+    pub fn try_copy(&self, more: u8) -> Result<Self, NoMemory>
+        requires { length self.now.entries ≤ 128 }
+        ensures same { IfOk result (λ copy. copy.entries ≡ self.now.entries) }
+        ensures spare { IfOk result (λ copy. more ≤ copy.spare) }
+        ensures profile { (P : ProjectValue) → IsProfileOf P self.now → IfOk result (IsProfileOf P) }
     {
-        Ok(Profile {
-            entries: self.entries.clone()?,
-        })
+        let mut entries = Vec::with_capacity(
+            *self.entries.allocator(),
+            self.entries.len() + more as usize,
+        )?;
+        entries.extend_from_slice(self.entries.as_slice())?;
+        Ok(Profile { entries })
     }
 
     /// The entries in the order of placing.
@@ -97,8 +102,7 @@ impl Profile {
 
     /// What the entries take of the resource in the period, 0 to 1,000,000.
     pub fn usage(&self, project: &Project, resource: u8, period: u32) -> u64
-        requires entries { AreOf project.now self.now.entries }
-        requires capacity { KeepsCapacities project.now self.now.entries }
+        requires profile { IsProfileOf project.now self.now }
         requires resource { IsRenewable project.now resource }
         ensures { result ≡ usage project.now self.now.entries resource period }
     {
@@ -112,8 +116,7 @@ impl Profile {
 
     /// Whether the job in the mode, from the period on, exceeds no capacity together with the entries.
     pub fn fits(&self, project: &Project, job: u8, mode: u8, at: u32) -> bool
-        requires entries { AreOf project.now self.now.entries }
-        requires capacity { KeepsCapacities project.now self.now.entries }
+        requires profile { IsProfileOf project.now self.now }
         requires job { IsJob project.now job }
         requires mode { IsMode project.now job mode }
         ensures { IsTrue result ↔ Fits project.now self.now.entries job mode at }
@@ -124,8 +127,7 @@ impl Profile {
     /// The least start at or after the floor at which the job in the mode fits, or `None` where its mode takes time and
     /// asks for more than a capacity.
     pub fn earliest(&self, project: &Project, job: u8, mode: u8, floor: u32) -> Option<u32>
-        requires entries { AreOf project.now self.now.entries }
-        requires capacity { KeepsCapacities project.now self.now.entries }
+        requires profile { IsProfileOf project.now self.now }
         requires job { IsJob project.now job }
         requires mode { IsMode project.now job mode }
         ensures least { IfSome result (IsLeast (FitsFrom project.now self.now.entries job mode floor)) }

@@ -1,7 +1,6 @@
-use Rattle.std.proofs.Common.{◌≡◌, ℕ, ◌<◌, ◌≤◌, inl, inr, arith, refl, sym, subst}
+use Rattle.std.proofs.Common.{inl, inr, arith, refl, subst}
 use Rattle.std.proofs.lemmas.Bool.{both_ways, cases_eq}
 use Rattle.std.proofs.lemmas.Bool.Decides.{nat_tests}
-use Rattle.rcpsp_model.specs.Schedule.{calm, end_of}
 use Rattle.rcpsp_model.specs.Tree.{Fits}
 use Rattle.rcpsp_model.proofs.FrontLemmas.{fits-executable, fits-past_end}
 use Rattle.profiles.proofs.beside.earliest_beside.Goals as goal
