@@ -20,6 +20,7 @@ use Rattle.rcpsp_model.proofs.Successors.{before-job}
 use Rattle.rcpsp_model.proofs.FrontLemmas.{in_turn, keeps-push, end-push, duration-limit, fits-past_end, fits-executable, part-jobs, spot, each}
 use Rattle.rcpsp_model.proofs.DominanceLemmas.{sound-push}
 use Rattle.rcpsp_model.proofs.PlanLemmas.{IsPlan}
+use Rattle.profiles.specs.Placed.{Placed, IsProfileOf}
 use Rattle.profiles.specs.Room.{FitsFrom}
 use Rattle.serial_scheme.specs.Priority.{IsOpen, IsMostUrgent, done_at}
 use Rattle.serial_scheme.proofs.JobSteps.{all-placed}
@@ -131,6 +132,12 @@ scheduled-of P p Rule F t =
       mode = placing.plan.modes e i;
       start = let h = finish-le-end P F e i in let k = scheduled-end P p Rule F t in omega arith;
     })
+
+pub scheduled-profile : (P : Project) → IsProject P → (Rule : ModeRule) (held : Placed) → InTurn (IsScheduledNext P Rule) [] held.entries → IsProfileOf P held
+scheduled-profile P p Rule held t = record {
+  entries = scheduled-of P p Rule held.entries t;
+  capacities = (scheduled-placing P p.acyclic Rule held.entries t).plan.keeps;
+}
 
 -- The next job by the set of those that are placed.
 

@@ -3,7 +3,7 @@ use Rattle.rcpsp_model.specs.declared.parts.Entry.{Entry}
 use Rattle.rcpsp_model.specs.Schedule.{AreOf}
 use Rattle.rcpsp_model.specs.Tree.{entry_at}
 use Rattle.serial_scheme.specs.Rules.{HasMode}
-use Rattle.serial_scheme.proofs.PlacedLemmas.{SoFar, scheduled-of, scheduled-placing, least-from, start-limit, length-open, so_far-push, serial-from}
+use Rattle.serial_scheme.proofs.PlacedLemmas.{SoFar, scheduled-of, scheduled-profile, least-from, start-limit, length-open, so_far-push, serial-from}
 use Rattle.serial_scheme.proofs.PlanFacts.{has_mode-is}
 use Rattle.serial_scheme.proofs.scheme.serial_plan.Goals as goal
 
@@ -11,17 +11,11 @@ pub predecessors_done-done-requires-clause-entries : goal.predecessors_done-done
 predecessors_done-done-requires-clause-entries c =
     subst (AreOf c.args.p.now) (sym c.entries.ensures) (scheduled-of c.args.p.now c.known.ensures (HasMode c.args.rule) c.loop-job.profile.entries c.loop-job.invariant.turn)
 
-pub earliest-requires-clause-entries : goal.earliest-requires-clause-entries
-earliest-requires-clause-entries c = scheduled-of c.args.p.now c.known.ensures (HasMode c.args.rule) c.loop-job.profile.entries c.loop-job.invariant.turn
+pub earliest-requires-clause-profile : goal.earliest-requires-clause-profile
+earliest-requires-clause-profile c = scheduled-profile c.args.p.now c.known.ensures (HasMode c.args.rule) c.loop-job.profile c.loop-job.invariant.turn
 
-pub earliest-requires-clause-capacity : goal.earliest-requires-clause-capacity
-earliest-requires-clause-capacity c = (scheduled-placing c.args.p.now c.known.ensures.acyclic (HasMode c.args.rule) c.loop-job.profile.entries c.loop-job.invariant.turn).plan.keeps
-
-pub place-requires-clause-entries : goal.place-requires-clause-entries
-place-requires-clause-entries c = scheduled-of c.args.p.now c.known.ensures (HasMode c.args.rule) c.loop-job.profile.entries c.loop-job.invariant.turn
-
-pub place-requires-clause-capacity : goal.place-requires-clause-capacity
-place-requires-clause-capacity c = (scheduled-placing c.args.p.now c.known.ensures.acyclic (HasMode c.args.rule) c.loop-job.profile.entries c.loop-job.invariant.turn).plan.keeps
+pub place-requires-clause-profile : goal.place-requires-clause-profile
+place-requires-clause-profile c = scheduled-profile c.args.p.now c.known.ensures (HasMode c.args.rule) c.loop-job.profile c.loop-job.invariant.turn
 
 pub place-requires-clause-entry : goal.place-requires-clause-entry
 place-requires-clause-entry c =
