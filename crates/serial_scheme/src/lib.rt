@@ -8,5 +8,7 @@ mod outcome;
 mod plan;
 mod priority;
 mod scheme;
+#[cfg(test)]
+mod tests;
 
 pub use plan::first_plan;
