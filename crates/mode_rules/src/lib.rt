@@ -3,5 +3,7 @@
 
 mod compared;
 mod rules;
+#[cfg(test)]
+mod tests;
 
 pub use rules::{executable, inefficient, least_duration, least_need, least_work};

@@ -1,0 +1,6 @@
+pub mod ModeSteps
+pub mod JobSteps
+pub mod EntrySteps
+pub mod PlacedLemmas
+pub mod PlanFacts
+pub mod PlaceSteps

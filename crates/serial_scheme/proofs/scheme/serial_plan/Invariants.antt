@@ -1,0 +1,11 @@
+use Rattle.std.proofs.Common.{◌-◌, length}
+use Rattle.rcpsp_model.specs.Project.{job_count}
+use Rattle.serial_scheme.specs.Rules.{HasMode}
+use Rattle.serial_scheme.proofs.PlacedLemmas.{SoFar}
+use Rattle.serial_scheme.proofs.scheme.serial_plan.Given as goal
+
+abbrev pub invariant-loop-job : goal.invariant-loop-job
+invariant-loop-job l = SoFar l.p (HasMode l.rule) l.placed l.profile.entries
+
+abbrev pub decreases-loop-job : goal.decreases-loop-job
+decreases-loop-job l = job_count l.p - length l.profile.entries
