@@ -62,7 +62,7 @@ open-shut P F j m (NoCapacity k) o s =
     let lack = s.attained in let enough = o.executable lack.takes_time k lack.renewable in let lacks = lack.lacks in omega arith
 open-shut P F j m (NoBudget l) o s =
     let gap = s.1.attained in let enough = o.budgets l gap.nonrenewable in let exceeds = gap.exceeds in omega arith
-open-shut P F j m (Inefficient n) o s = o.efficient n s.2.2.attained
+open-shut P F j m (Inefficient n) o s = o.efficient n s.2.attained
 
 -- the exchange leads to a placed child of the list
 pub children-exchange : (P : Project) (F : List Entry) (cs : List (Child (List Entry))) → IsAcyclic P → IsFront P F → AreChildren P F cs → LosesNothing P F cs
