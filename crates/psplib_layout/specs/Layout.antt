@@ -1,5 +1,5 @@
 -- The whole layout: the header and the three parts, and the project that they describe.
-use Rattle.std.specs.Prelude.{◌≡◌, ℕ, ◌+◌, ◌==◌, Bool, true, false, List, [], ◌∷◌, ◌++◌, map, filter, Result, Ok, codes, if◌then◌else◌}
+use Rattle.std.specs.Prelude.{◌≡◌, ℕ, ◌+◌, ◌≤◌, ◌==◌, Bool, true, false, List, [], ◌∷◌, ◌++◌, map, filter, Result, Ok, codes, if◌then◌else◌}
 use Rattle.std.specs.List.{list_any}
 use Rattle.psplib_lex.specs.Line.{Line}
 use Rattle.rcpsp_model.specs.declared.parts.Mode.{Mode}
@@ -71,6 +71,16 @@ pub record ReadsLayout (lines : List Line) (content : Content) : Type 0 where
   pub precedence : ReadsPrecedence content.header behind_header content.rows behind_precedence
   pub requests : ReadsRequests content.header content.rows behind_precedence content.modes behind_requests
   pub availabilities : ReadsAvailabilities content.header behind_requests content.amounts []
+
+-- the numbers of a content are within the limits, and its lists as long as they say
+pub record IsWithinContentLimits (content : Content) : Type 0 where
+  pub some_job : 1 ≤ content.header.jobs
+  pub few_jobs : content.header.jobs ≤ 128
+  pub few_renewables : content.header.renewables ≤ 16
+  pub few_nonrenewables : content.header.nonrenewables ≤ 16
+  pub rows : AreRows content.header.jobs content.rows
+  pub modes : AreModes content.header.renewables content.header.nonrenewables (mode_counts content.rows) content.modes
+  pub amounts : AreAmounts content.header.renewables content.header.nonrenewables content.amounts
 
 -- the jobs of so many that are among these, ascending and each once
 abbrev pub ascending : ℕ → List ℕ → List ℕ

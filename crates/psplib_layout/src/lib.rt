@@ -16,6 +16,9 @@ mod source;
 mod text;
 mod title;
 
+#[cfg(test)]
+mod tests;
+
 pub use content::{Amounts, Content, Header, JobRow};
 pub use fault::{Fault, ReadError, Refusal};
 pub use numbers::{CAP, number};
