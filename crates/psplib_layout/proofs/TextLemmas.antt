@@ -13,7 +13,7 @@ use Rattle.psplib_layout.specs.declared.fault.ReadError.TheVariants as errors
 use Rattle.psplib_layout.specs.Place.{IsRefused}
 use Rattle.psplib_layout.specs.Reading.{refusal}
 use Rattle.psplib_layout.specs.Part.{HaveWords}
-use Rattle.psplib_layout.specs.Layout.{Content, layout_in, project_of}
+use Rattle.psplib_layout.specs.Layout.{Content, layout_in}
 use Rattle.psplib_layout.specs.Text.{HasContent, Reads, content_in, end_line, IsRefusedAsLong}
 use Rattle.psplib_layout.proofs.Steps.{ok_is}
 use Rattle.psplib_layout.proofs.LayoutLemmas.{layout_found, layout_again}

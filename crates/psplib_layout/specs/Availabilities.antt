@@ -1,5 +1,5 @@
 -- The availabilities part: the capacities of the renewable resources, and the budgets of the nonrenewable ones.
-use Rattle.std.specs.Prelude.{◌≡◌, ℕ, ◌≤◌, List, length}
+use Rattle.std.specs.Prelude.{◌≡◌, ℕ, ◌≤◌, length}
 use Rattle.std.specs.List.{AllByRecursion}
 pub use Rattle.psplib_layout.specs.declared.content.Amounts.{Amounts}
 use Rattle.psplib_layout.specs.Rule.{up_to}

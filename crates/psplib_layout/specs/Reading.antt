@@ -1,6 +1,6 @@
 -- Reading from left to right, up to the first fault. What is left to read is a list of lines; of the first line some
 -- words may be taken already.
-use Rattle.std.specs.Prelude.{◌≡◌, ℕ, List, [], ◌∷◌, drop, Option, Some, None, Result, Ok, Err, nat_lt, if◌then◌else◌}
+use Rattle.std.specs.Prelude.{ℕ, List, [], ◌∷◌, Option, Some, None, Result, Ok, Err, nat_lt, if◌then◌else◌}
 use Rattle.psplib_lex.specs.Line.{Line}
 use Rattle.psplib_lex.specs.Number.{number_of}
 use Rattle.psplib_layout.specs.declared.fault.Fault.{Fault}

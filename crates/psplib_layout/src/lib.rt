@@ -13,11 +13,10 @@ mod precedence;
 mod requests;
 mod rule;
 mod source;
-mod text;
-mod title;
-
 #[cfg(test)]
 mod tests;
+mod text;
+mod title;
 
 pub use content::{Amounts, Content, Header, JobRow};
 pub use fault::{Fault, ReadError, Refusal};

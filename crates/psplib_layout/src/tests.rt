@@ -105,9 +105,19 @@ fn refusals(rt: HostRuntime) -> Result<(), Fail> {
         (9, Some(b"- renewable : 17"), Fault::OutOfLimit, 9),
         (20, Some(b"2 1 x 4"), Fault::NotANumber, 20),
         (28, Some(b"2 1 10001 2"), Fault::OutOfLimit, 28),
-        (28, Some(b"2 1 99999999999999999999999999 2"), Fault::OutOfLimit, 28),
+        (
+            28,
+            Some(b"2 1 99999999999999999999999999 2"),
+            Fault::OutOfLimit,
+            28,
+        ),
         (5, Some(b"projects : 2"), Fault::NotOneProject, 5),
-        (11, Some(b"- doubly constrained : 1"), Fault::DoublyConstrained, 11),
+        (
+            11,
+            Some(b"- doubly constrained : 1"),
+            Fault::DoublyConstrained,
+            11,
+        ),
         (21, Some(b"4 1 1 4"), Fault::WrongJobNumber, 21),
         (28, Some(b"2 2 3 2"), Fault::WrongModeNumber, 28),
         (20, Some(b"2 0 1 4"), Fault::NoModes, 20),
@@ -127,7 +137,11 @@ fn refusals(rt: HostRuntime) -> Result<(), Fail> {
             fault: *fault,
             line: *at,
         };
-        assert_eq!(rt; refusal_of(rt.alloc(), &text), Some(wanted), "line {line}: {fault:?}");
+        assert_eq!(rt;
+            refusal_of(rt.alloc(), &text),
+            Some(wanted),
+            "line {line}: {fault:?}"
+        );
     }
     let blanks = vec![in rt.alloc(); b' '; 4_194_305]?;
     let long = Refusal {
@@ -162,15 +176,13 @@ fn contents(rt: HostRuntime) -> Result<(), Fail> {
     let table: [(&[u8], &[u32]); 2] = [
         (
             TEXT,
-            &[
-                4, 1, 2, 3, 1, 4, 1, 4, 1, 0, 0, 3, 2, 2, 2, 0, 0, 3,
-            ],
+            &[4, 1, 2, 3, 1, 4, 1, 4, 1, 0, 0, 3, 2, 2, 2, 0, 0, 3],
         ),
         (
             WRAPPED,
             &[
-                4, 1, 2, 3, 2, 4, 2, 4, 4, 1, 0, 0, 0, 2, 1, 3, 4, 1, 1, 2, 1, 3, 4, 1, 1, 0, 0,
-                0, 2, 4,
+                4, 1, 2, 3, 2, 4, 2, 4, 4, 1, 0, 0, 0, 2, 1, 3, 4, 1, 1, 2, 1, 3, 4, 1, 1, 0, 0, 0,
+                2, 4,
             ],
         ),
     ];

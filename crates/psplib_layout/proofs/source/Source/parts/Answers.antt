@@ -1,4 +1,3 @@
-use Rattle.std.proofs.Common.{◌≡◌, ◌≤◌, length, All, arith, subst, sym}
 use Rattle.psplib_layout.specs.Place.{rest_at}
 use Rattle.psplib_layout.proofs.HeaderLemmas.{header_found}
 use Rattle.psplib_layout.proofs.LayoutLemmas.{few_rows, few_modes}
