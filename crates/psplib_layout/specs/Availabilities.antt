@@ -12,6 +12,7 @@ pub record AreAmounts (renewables nonrenewables : ℕ) (amounts : Amounts) : Typ
   pub capacities : AllByRecursion (λ n. n ≤ 1000000) amounts.capacities
   pub budgets : AllByRecursion (λ n. n ≤ 1000000) amounts.budgets
 
+-- a capacity of each renewable resource, and then a budget of each nonrenewable one
 unfoldable pub all_amounts : ℕ → ℕ → Wanted Amounts
 all_amounts renewables nonrenewables = do
   capacities ← times renewables (up_to 1000000)
