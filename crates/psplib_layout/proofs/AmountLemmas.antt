@@ -1,5 +1,5 @@
 -- The numbers that the capacities and budgets are.
-use Rattle.std.proofs.Common.{◌≡◌, ℕ, ◌≤◌, List, [], ◌++◌, length, refl, ap, subst, ◌∙◌}
+use Rattle.std.proofs.Common.{◌≡◌, ℕ, List, [], ◌++◌, refl, ap, subst, ◌∙◌}
 use Rattle.std.proofs.lemmas.List.{append-nil}
 use Rattle.psplib_layout.specs.Rule.{up_to}
 use Rattle.psplib_layout.specs.Wanted.{give, times, Stands, ◌>>=◌}

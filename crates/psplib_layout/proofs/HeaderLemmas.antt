@@ -1,5 +1,5 @@
 -- The header is read exactly where the lines have one.
-use Rattle.std.proofs.Common.{◌≡◌, ℕ, ◌≤◌, List, [], ◌∷◌, ◌++◌, Ok, codes, refl, sym, ap, subst, ◌∙◌, arith}
+use Rattle.std.proofs.Common.{◌≡◌, ℕ, ◌≤◌, List, ◌∷◌, ◌++◌, Ok, codes, refl, sym, ap, subst, ◌∙◌, arith}
 use Rattle.psplib_lex.specs.Line.{Line}
 use Rattle.psplib_layout.specs.declared.fault.Fault.TheVariants.{NotOneProject, DoublyConstrained}
 use Rattle.psplib_layout.specs.Rule.{exactly, between, up_to}
@@ -7,7 +7,7 @@ use Rattle.psplib_layout.specs.Reading.{◌>>=◌}
 use Rattle.psplib_layout.specs.Title.{titled, keyed, colon_line, skipped_to}
 use Rattle.psplib_layout.specs.Header.{Header, HasTitle, NoneHasTitle, HasValue, HasColon, ReadsHeader, job_count_in, counts_in, resources_in, header_in}
 use Rattle.psplib_layout.proofs.Steps.{bind_ok, ok_is}
-use Rattle.psplib_layout.proofs.Titles.{titled_found, titled_again, keyed_found, keyed_again, colon_found, colon_again, skipped_found, skipped_again}
+use Rattle.psplib_layout.proofs.Titles.{titled_found, keyed_found, keyed_again, colon_found, colon_again, skipped_found, skipped_again}
 
 -- the first four header lines
 record JobCount (lines : List Line) (x : ℕ × List Line) : Type 0 where

@@ -1,12 +1,11 @@
 -- The lines of words, and how many words the rows before a job's are.
-use Rattle.std.proofs.Common.{◌≡◌, ℕ, ◌+◌, ◌-◌, ◌<◌, ◌≤◌, Bool, true, false, cond, ltb, List, [], ◌∷◌, ◌++◌, length, take, drop, get_or, Ok, refl, sym, ap, ◌∙◌, arith, length-append, length-drop}
+use Rattle.std.proofs.Common.{◌≡◌, ℕ, ◌+◌, ◌-◌, ◌<◌, ◌≤◌, List, [], ◌∷◌, ◌++◌, length, take, drop, get_or, Ok, refl, sym, ap, ◌∙◌, arith, length-append, length-drop}
 use Rattle.std.proofs.lemmas.Bool.{le-ltb, lt-ltb}
 use Rattle.std.proofs.lemmas.List.{drop_all, take_more}
 use Rattle.psplib_lex.specs.Line.{Line, line_at, lines_of}
 use Rattle.psplib_layout.specs.Place.{past}
-use Rattle.psplib_layout.specs.Header.{header_in}
 use Rattle.psplib_layout.specs.Precedence.{JobRow, row_numbers, rows_numbers}
-use Rattle.psplib_layout.specs.Layout.{Content, rows_begin_in}
+use Rattle.psplib_layout.specs.Layout.{Content}
 use Rattle.psplib_layout.specs.Text.{HasContent, line_of_word, row_line, job_line_in}
 use Rattle.psplib_layout.proofs.Places.{lines_from, past-zero}
 use Rattle.psplib_layout.proofs.HeaderLemmas.{header_again}

@@ -1,5 +1,5 @@
 -- Each part, and the whole layout, is read exactly where the lines have it.
-use Rattle.std.proofs.Common.{◌≡◌, ℕ, ◌+◌, ◌≤◌, ◌==◌, Bool, true, false, cond, List, [], ◌∷◌, ◌++◌, length, map, All, Ok, codes, refl, sym, ap, subst, ◌∙◌, arith, length-append}
+use Rattle.std.proofs.Common.{◌≡◌, ℕ, ◌+◌, ◌≤◌, Bool, true, false, cond, List, [], ◌∷◌, ◌++◌, length, map, All, Ok, codes, refl, sym, ap, subst, ◌∙◌, arith, length-append}
 use Rattle.std.proofs.lemmas.Bool.Decides.{nat_tests}
 use Rattle.std.proofs.lemmas.List.{nil_from_length}
 use Rattle.std.proofs.lemmas.List.Elements.{All-from_recursion, All-weaker}
@@ -9,8 +9,8 @@ use Rattle.psplib_layout.specs.Reading.{◌>>=◌}
 use Rattle.psplib_layout.specs.Title.{has_title, titled, skipped_to, any_line, no_more}
 use Rattle.psplib_layout.specs.Part.{HasPart, part_in, HaveWords}
 use Rattle.psplib_layout.specs.Header.{Header, HasTitle, NoneHasTitle, header_in}
-use Rattle.psplib_layout.specs.Precedence.{JobRow, rows_numbers, IsRow, AreRows, all_rows}
-use Rattle.psplib_layout.specs.Requests.{all_modes_numbers, AreModes, all_modes}
+use Rattle.psplib_layout.specs.Precedence.{JobRow, rows_numbers, IsRow, all_rows}
+use Rattle.psplib_layout.specs.Requests.{all_modes_numbers, all_modes}
 use Rattle.psplib_layout.specs.Availabilities.{Amounts, AreAmounts, all_amounts}
 use Rattle.psplib_layout.specs.Layout.{Content, ReadsPrecedence, ReadsRequests, ReadsAvailabilities, ReadsLayout, ListsAmounts, HasAmounts, has_no_resource, mode_counts, no_amounts, rows_begin_in, precedence_in, requests_in, listed_in, availabilities_in, layout_in}
 use Rattle.psplib_layout.proofs.Steps.{bind_ok, ok_is}

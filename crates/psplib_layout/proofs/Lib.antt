@@ -17,3 +17,4 @@ pub mod Loops
 pub mod RowSteps
 pub mod ModeSteps
 pub mod JobLines
+pub mod Limits

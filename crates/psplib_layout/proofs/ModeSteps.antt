@@ -1,20 +1,16 @@
 -- Reading the modes of a job one by one.
-use Rattle.std.proofs.Common.{◌≡◌, ℕ, suc, ◌-◌, ◌+◌, ◌≤◌, ◌<◌, List, [], ◌∷◌, ◌++◌, length, drop, get_or, Result, Ok, Err, refl, sym, ap, ◌∙◌, append_assoc, arith}
+use Rattle.std.proofs.Common.{◌≡◌, ℕ, suc, ◌-◌, ◌+◌, ◌≤◌, ◌<◌, List, [], ◌∷◌, length, drop, get_or, Result, Ok, Err, sym, ap, ◌∙◌, arith}
 use Rattle.std.proofs.lemmas.List.{drop_more}
 use Rattle.psplib_lex.specs.Line.{Line}
 use Rattle.psplib_layout.specs.declared.fault.Refusal.{Refusal}
-use Rattle.psplib_layout.specs.declared.fault.ReadError.{ReadError}
-use Rattle.psplib_layout.specs.declared.fault.ReadError.TheVariants as errors
-use Rattle.psplib_layout.specs.declared.rule.Rule.{Rule}
 use Rattle.psplib_layout.specs.Wanted as wanted
 use Rattle.psplib_layout.specs.Wanted.{Wanted, give, number, times}
 use Rattle.psplib_layout.specs.Reading.{◌>>=◌, number_in, read_wanted}
-use Rattle.psplib_layout.specs.Place.{IsRefused}
 use Rattle.rcpsp_model.specs.declared.parts.Mode.{Mode}
 use Rattle.psplib_layout.specs.declared.fault.Fault.TheVariants.{WrongModeNumber}
 use Rattle.psplib_layout.specs.Rule.{exactly, up_to}
 use Rattle.psplib_layout.specs.Requests.{mode_row, mode_rows, job_modes, all_modes}
-use Rattle.psplib_layout.specs.Availabilities.{Amounts, all_amounts}
+use Rattle.psplib_layout.specs.Availabilities.{all_amounts}
 use Rattle.psplib_layout.specs.Precedence.{JobRow}
 use Rattle.psplib_layout.specs.Layout.{mode_counts}
 use Rattle.psplib_layout.proofs.Loops.{read_wanted->>=, with_front, with_none_more, first_of, first_stops}

@@ -1,15 +1,14 @@
 -- The numbers that the modes of a requests part are.
-use Rattle.std.proofs.Common.{◌≡◌, ℕ, zero, suc, ◌+◌, ◌≤◌, List, [], ◌∷◌, ◌++◌, length, map, All, refl, sym, ap, subst, ◌∙◌, arith}
+use Rattle.std.proofs.Common.{◌≡◌, ℕ, zero, suc, ◌+◌, ◌≤◌, List, [], ◌∷◌, ◌++◌, length, map, refl, ap, subst, ◌∙◌, arith}
 use Rattle.std.specs.List.{AllByRecursion}
 use Rattle.std.proofs.lemmas.List.{append-nil}
-use Rattle.std.proofs.lemmas.List.Elements.{All-from_recursion, recursion_from_All, All-weaker}
+use Rattle.std.proofs.lemmas.List.Elements.{All-from_recursion, recursion_from_All}
 use Rattle.rcpsp_model.specs.declared.parts.Mode.{Mode}
 use Rattle.rcpsp_model.specs.Project.{IsModeWithinLimits}
 use Rattle.psplib_layout.specs.Rule.{Keeps, up_to}
-use Rattle.psplib_layout.specs.Wanted.{Wanted, give, times, Stands, ◌>>=◌}
+use Rattle.psplib_layout.specs.Wanted.{give, times, Stands, ◌>>=◌}
 use Rattle.psplib_layout.specs.Requests.{mode_numbers, modes_numbers, all_modes_numbers, mode_row, mode_rows, job_modes, all_modes}
 use Rattle.psplib_layout.proofs.Stand.{Stands-parts, Stands-both, given, times_found, times_again, Stands-cons_parts, Stands-cons}
-
 
 -- numbers up to the limit
 pub within_limit : (numbers : List ℕ) → AllByRecursion (Keeps (up_to 1000000)) numbers → AllByRecursion (λ n. n ≤ 1000000) numbers

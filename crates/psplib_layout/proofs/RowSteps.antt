@@ -1,14 +1,10 @@
 -- Reading the rows of jobs one by one.
-use Rattle.std.proofs.Common.{◌≡◌, ℕ, suc, ◌-◌, ◌+◌, ◌≤◌, ◌<◌, List, [], ◌∷◌, ◌++◌, Result, Ok, Err, refl, sym, ap, ◌∙◌, append_assoc, arith}
+use Rattle.std.proofs.Common.{◌≡◌, ℕ, suc, ◌-◌, ◌+◌, ◌≤◌, ◌<◌, List, ◌∷◌, Result, Ok, Err, refl, sym, ◌∙◌, arith}
 use Rattle.psplib_lex.specs.Line.{Line}
 use Rattle.psplib_layout.specs.declared.fault.Refusal.{Refusal}
-use Rattle.psplib_layout.specs.declared.fault.ReadError.{ReadError}
-use Rattle.psplib_layout.specs.declared.fault.ReadError.TheVariants as errors
-use Rattle.psplib_layout.specs.declared.rule.Rule.{Rule}
 use Rattle.psplib_layout.specs.Wanted as wanted
 use Rattle.psplib_layout.specs.Wanted.{Wanted, give, number, times}
 use Rattle.psplib_layout.specs.Reading.{◌>>=◌, number_in, read_wanted}
-use Rattle.psplib_layout.specs.Place.{IsRefused}
 use Rattle.psplib_layout.specs.declared.fault.Fault.TheVariants.{WrongJobNumber}
 use Rattle.psplib_layout.specs.Rule.{exactly, up_to}
 use Rattle.psplib_layout.specs.Precedence.{JobRow, mode_count, successor, job_row, job_rows}

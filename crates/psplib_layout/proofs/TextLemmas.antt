@@ -1,5 +1,5 @@
 -- The content of a text is read exactly where it has one, and there is one alone.
-use Rattle.std.proofs.Common.{◌≡◌, ℕ, ◌≤◌, ◌<◌, Bool, true, false, cond, ltb, List, length, Ok, sym, ◌∙◌, refl}
+use Rattle.std.proofs.Common.{◌≡◌, ℕ, ◌≤◌, ◌<◌, Bool, true, false, cond, ltb, List, length, Ok, Err, sym, ap, ◌∙◌, refl}
 use Rattle.std.proofs.lemmas.Bool.{ltb-false, le-ltb, lt-ltb}
 use Rattle.std.proofs.lemmas.List.Elements.{recursion_from_All}
 use Rattle.rcpsp_model.specs.Project.{Project}
@@ -7,10 +7,14 @@ use Rattle.psplib_lex.specs.declared.lexer.TheConstants.{MOST_BYTES}
 use Rattle.psplib_lex.specs.Line.{Line, lines_of}
 use Rattle.psplib_lex.proofs.Kept.{have_words}
 use Rattle.psplib_layout.specs.declared.fault.Fault.TheVariants.{TextTooLong}
+use Rattle.psplib_layout.specs.declared.fault.Refusal.{Refusal}
+use Rattle.psplib_layout.specs.declared.fault.ReadError.{ReadError}
+use Rattle.psplib_layout.specs.declared.fault.ReadError.TheVariants as errors
+use Rattle.psplib_layout.specs.Place.{IsRefused}
 use Rattle.psplib_layout.specs.Reading.{refusal}
 use Rattle.psplib_layout.specs.Part.{HaveWords}
-use Rattle.psplib_layout.specs.Layout.{Content, layout_in, project_of}
-use Rattle.psplib_layout.specs.Text.{HasContent, Reads, content_in, end_line}
+use Rattle.psplib_layout.specs.Layout.{Content, layout_in}
+use Rattle.psplib_layout.specs.Text.{HasContent, Reads, content_in, end_line, IsRefusedAsLong}
 use Rattle.psplib_layout.proofs.Steps.{ok_is}
 use Rattle.psplib_layout.proofs.LayoutLemmas.{layout_found, layout_again}
 
@@ -44,3 +48,7 @@ long_text text h = rw (lt-ltb MOST_BYTES (length text) h) refl
 pub short_text : (text : List ℕ) (lines : List Line) (end : ℕ) → length text ≤ MOST_BYTES → lines ≡ lines_of text → end ≡ end_line text → layout_in end lines ≡ content_in text
 unfolding content_in
 short_text text lines end few l e = rw (le-ltb MOST_BYTES (length text) few, l, e) refl
+
+pub refused_as_long : (text : List ℕ) (e : ReadError) → IsRefusedAsLong text e → IsRefused e (content_in text)
+refused_as_long text errors.NoMemory h = tt
+refused_as_long text (errors.Refused f) h = long_text text h.0 ∙ ap (λ (g : Refusal). Err g) (sym h.1)

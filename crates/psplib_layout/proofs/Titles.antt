@@ -1,8 +1,7 @@
 -- Lines that are read one by one.
-use Rattle.std.proofs.Common.{◌≡◌, ℕ, Bool, true, false, cond, List, [], ◌∷◌, ◌++◌, Option, Some, None, Result, Ok, Err, refl, ap, subst, ◌∙◌}
+use Rattle.std.proofs.Common.{◌≡◌, ℕ, Bool, true, false, cond, List, [], ◌∷◌, ◌++◌, Option, Some, None, Ok, refl, ap, subst, ◌∙◌}
 use Rattle.psplib_lex.specs.Line.{Line}
 use Rattle.psplib_lex.specs.Number.{number_of}
-use Rattle.psplib_layout.specs.declared.fault.Refusal.{Refusal}
 use Rattle.psplib_layout.specs.declared.rule.Rule.{Rule}
 use Rattle.psplib_layout.specs.Rule.{Keeps}
 use Rattle.psplib_layout.specs.declared.fault.Fault.TheVariants.{MissingPart}

@@ -1,5 +1,5 @@
 -- The availabilities part: the capacities of the renewable resources, and the budgets of the nonrenewable ones.
-use Rattle.std.specs.Prelude.{◌≡◌, ℕ, ◌≤◌, List, length}
+use Rattle.std.specs.Prelude.{◌≡◌, ℕ, ◌≤◌, length}
 use Rattle.std.specs.List.{AllByRecursion}
 pub use Rattle.psplib_layout.specs.declared.content.Amounts.{Amounts}
 use Rattle.psplib_layout.specs.Rule.{up_to}
@@ -12,6 +12,7 @@ pub record AreAmounts (renewables nonrenewables : ℕ) (amounts : Amounts) : Typ
   pub capacities : AllByRecursion (λ n. n ≤ 1000000) amounts.capacities
   pub budgets : AllByRecursion (λ n. n ≤ 1000000) amounts.budgets
 
+-- a capacity of each renewable resource, and then a budget of each nonrenewable one
 unfoldable pub all_amounts : ℕ → ℕ → Wanted Amounts
 all_amounts renewables nonrenewables = do
   capacities ← times renewables (up_to 1000000)

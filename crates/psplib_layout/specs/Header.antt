@@ -12,6 +12,7 @@ use Rattle.psplib_layout.specs.Title.{has_title, header_value, titled, keyed, co
 
 -- ---- what the header is
 
+-- the line has the title
 abbrev pub HasTitle : List ℕ → Line → Type 0
 HasTitle key line = has_title key line ≡ true
 
@@ -60,6 +61,7 @@ pub record ReadsHeader (lines : List Line) (header : Header) (rest : List Line) 
 
 -- ---- reading it line by line, up to the first fault
 
+-- the lines up to the horizon, with the number of jobs
 unfoldable pub job_count_in : ℕ → List Line → Result (ℕ × List Line) Refusal
 job_count_in end lines = do
   head ← skipped_to end (codes "projects") lines
@@ -68,6 +70,7 @@ job_count_in end lines = do
   horizon ← colon_line end (codes "horizon") jobs.1
   Ok (jobs.0, horizon)
 
+-- the next three lines, with the numbers of renewable and nonrenewable resources
 unfoldable pub counts_in : ℕ → List Line → Result ((ℕ × ℕ) × List Line) Refusal
 counts_in end lines = do
   resources ← titled end (codes "RESOURCES") lines
@@ -75,6 +78,7 @@ counts_in end lines = do
   nonrenewables ← keyed end (codes "-nonrenewable") (up_to 16) renewables.1
   Ok ((renewables.0, nonrenewables.0), nonrenewables.1)
 
+-- those and the last two, with the same numbers
 unfoldable pub resources_in : ℕ → List Line → Result ((ℕ × ℕ) × List Line) Refusal
 resources_in end lines = do
   counts ← counts_in end lines
@@ -82,6 +86,7 @@ resources_in end lines = do
   information ← titled end (codes "PROJECTINFORMATION:") doubly.1
   Ok (counts.0, information.1)
 
+-- the header, and the lines behind it
 unfoldable pub header_in : ℕ → List Line → Result (Header × List Line) Refusal
 header_in end lines = do
   jobs ← job_count_in end lines

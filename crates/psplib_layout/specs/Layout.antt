@@ -1,5 +1,5 @@
 -- The whole layout: the header and the three parts, and the project that they describe.
-use Rattle.std.specs.Prelude.{◌≡◌, ℕ, ◌+◌, ◌==◌, Bool, true, false, List, [], ◌∷◌, ◌++◌, map, filter, Result, Ok, codes, if◌then◌else◌}
+use Rattle.std.specs.Prelude.{◌≡◌, ℕ, ◌+◌, ◌≤◌, ◌==◌, Bool, true, false, List, [], ◌∷◌, ◌++◌, map, filter, Result, Ok, codes, if◌then◌else◌}
 use Rattle.std.specs.List.{list_any}
 use Rattle.psplib_lex.specs.Line.{Line}
 use Rattle.rcpsp_model.specs.declared.parts.Mode.{Mode}
@@ -14,8 +14,9 @@ use Rattle.psplib_layout.specs.Precedence.{JobRow, rows_numbers, AreRows, all_ro
 use Rattle.psplib_layout.specs.Requests.{all_modes_numbers, AreModes, all_modes}
 use Rattle.psplib_layout.specs.Availabilities.{Amounts, AreAmounts, all_amounts}
 
--- ---- what each part is: its title, one line that isn't read, and lines that spell its numbers
+-- ---- what each part is
 
+-- lines that aren't read, the title, a heading, and lines that spell the rows of all jobs
 pub record ReadsPrecedence (header : Header) (lines : List Line) (rows : List JobRow) (rest : List Line) : Type 0 where
   pub unread : List Line
   pub title : Line
@@ -27,9 +28,11 @@ pub record ReadsPrecedence (header : Header) (lines : List Line) (rows : List Jo
   pub part : HasPart (rows_numbers 1 rows) behind rest
   pub limits : AreRows header.jobs rows
 
+-- how many modes each job has by its row
 abbrev pub mode_counts : List JobRow → List ℕ
 mode_counts rows = map (λ row. row.modes) rows
 
+-- the title, a heading, and lines that spell the modes of all jobs, as many as the rows say
 pub record ReadsRequests (header : Header) (rows : List JobRow) (lines : List Line) (modes : List (List Mode)) (rest : List Line) : Type 0 where
   pub title : Line
   pub heading : Line
@@ -51,9 +54,11 @@ abbrev pub HasAmounts : Bool → List Line → Amounts → List Line → Type 0
 HasAmounts true lines amounts rest = lines ≡ rest
 HasAmounts false lines amounts rest = ListsAmounts lines amounts rest
 
+-- whether there is a resource of neither kind
 abbrev pub has_no_resource : Header → Bool
 has_no_resource header = header.renewables + header.nonrenewables == 0
 
+-- the title, and the amounts where there is a resource
 pub record ReadsAvailabilities (header : Header) (lines : List Line) (amounts : Amounts) (rest : List Line) : Type 0 where
   pub title : Line
   pub behind : List Line
@@ -72,10 +77,21 @@ pub record ReadsLayout (lines : List Line) (content : Content) : Type 0 where
   pub requests : ReadsRequests content.header content.rows behind_precedence content.modes behind_requests
   pub availabilities : ReadsAvailabilities content.header behind_requests content.amounts []
 
+-- the numbers of a content are within the limits, and its lists as long as they say
+pub record IsWithinContentLimits (content : Content) : Type 0 where
+  pub some_job : 1 ≤ content.header.jobs
+  pub few_jobs : content.header.jobs ≤ 128
+  pub few_renewables : content.header.renewables ≤ 16
+  pub few_nonrenewables : content.header.nonrenewables ≤ 16
+  pub rows : AreRows content.header.jobs content.rows
+  pub modes : AreModes content.header.renewables content.header.nonrenewables (mode_counts content.rows) content.modes
+  pub amounts : AreAmounts content.header.renewables content.header.nonrenewables content.amounts
+
 -- the jobs of so many that are among these, ascending and each once
 abbrev pub ascending : ℕ → List ℕ → List ℕ
 ascending jobs successors = filter (λ job. list_any (λ s. s == job) successors) (numbers_from 1 jobs)
 
+-- the jobs of a project of so many, by their rows and their modes
 abbrev pub activities_of : ℕ → List JobRow → List (List Mode) → List Activity
 activities_of jobs [] modes = []
 activities_of jobs (row ∷ rows) [] = []
@@ -98,11 +114,13 @@ rows_begin_in end lines = do
   heading ← any_line end title
   any_line end heading
 
+-- the rows of all jobs, and the lines behind the part
 unfoldable pub precedence_in : ℕ → Header → List Line → Result (List JobRow × List Line) Refusal
 precedence_in end header lines = do
   rows ← rows_begin_in end lines
   part_in end (all_rows header.jobs) rows
 
+-- the modes of all jobs, and the lines behind the part
 unfoldable pub requests_in : ℕ → Header → List JobRow → List Line → Result (List (List Mode) × List Line) Refusal
 requests_in end header rows lines = do
   title ← titled end (codes "REQUESTS/DURATIONS:") lines
@@ -115,14 +133,17 @@ listed_in end header lines = do
   amounts ← any_line end lines
   part_in end (all_amounts header.renewables header.nonrenewables) amounts
 
+-- the amounts where there is no resource
 abbrev pub no_amounts : Amounts
 no_amounts = record { capacities = []; budgets = [] }
 
+-- the amounts, and the lines behind the part
 unfoldable pub availabilities_in : ℕ → Header → List Line → Result (Amounts × List Line) Refusal
 availabilities_in end header lines = do
   title ← titled end (codes "RESOURCEAVAILABILITIES:") lines
   if has_no_resource header then Ok (no_amounts, title.1) else listed_in end header title.1
 
+-- the content of lines that are the layout and no more
 unfoldable pub layout_in : ℕ → List Line → Result Content Refusal
 layout_in end lines = do
   header ← header_in end lines

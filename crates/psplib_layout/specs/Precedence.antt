@@ -18,6 +18,7 @@ abbrev pub rows_numbers : ℕ → List JobRow → List ℕ
 rows_numbers job [] = []
 rows_numbers job (row ∷ rows) = row_numbers job row ++ rows_numbers (job + 1) rows
 
+-- the number is one of the jobs
 abbrev pub IsJob : ℕ → ℕ → Type 0
 IsJob jobs job = (1 ≤ job) × (job ≤ jobs)
 
@@ -28,6 +29,7 @@ pub record IsRow (jobs : ℕ) (row : JobRow) : Type 0 where
   pub few_successors : length row.successors ≤ 128
   pub successors : AllByRecursion (IsJob jobs) row.successors
 
+-- how many modes all jobs have together
 abbrev pub mode_total : List JobRow → ℕ
 mode_total rows = sum_by (λ row. row.modes) rows
 
@@ -43,9 +45,11 @@ pub record AreRows (jobs : ℕ) (rows : List JobRow) : Type 0 where
 abbrev pub mode_count : ℕ → Rule
 mode_count room = record { least = 1; most = min 16 room; below = NoModes; above = OutOfLimit }
 
+-- one of the jobs
 abbrev pub successor : ℕ → Rule
 successor jobs = record { least = 1; most = jobs; below = SuccessorOutOfRange; above = SuccessorOutOfRange }
 
+-- the number of the job, its number of modes, its number of successors, and so many successors
 unfoldable pub job_row : ℕ → ℕ → ℕ → Wanted JobRow
 job_row jobs job room = do
   number ← one (exactly job WrongJobNumber)

@@ -9,6 +9,7 @@ use Rattle.psplib_layout.specs.Wanted.{Wanted, give, ◌>>=◌, one, times}
 
 -- ---- what the part is
 
+-- the numbers of a mode's row
 abbrev pub mode_numbers : ℕ → Mode → List ℕ
 mode_numbers number mode = number ∷ mode.duration ∷ mode.requests ++ mode.needs
 
@@ -29,6 +30,7 @@ pub record AreModes (renewables nonrenewables : ℕ) (counts : List ℕ) (modes 
 
 -- ---- which numbers are wanted, in their order, and the faults of others
 
+-- the number of the mode, its duration, its requests and its needs
 unfoldable pub mode_row : ℕ → ℕ → ℕ → Wanted Mode
 mode_row renewables nonrenewables mode = do
   number ← one (exactly mode WrongModeNumber)

@@ -1,11 +1,13 @@
 -- A whole text: the project that it is, or its first refusal.
-use Rattle.std.specs.Prelude.{◌≡◌, ℕ, ◌+◌, ◌-◌, ◌≤◌, ◌⊎◌, List, [], ◌∷◌, ◌++◌, length, take, count_by, nat_lt, Result, Ok, Err, if◌then◌else◌}
+use Rattle.std.specs.Prelude.{◌≡◌, ℕ, ◌+◌, ◌-◌, ◌<◌, ◌≤◌, ◌⊎◌, List, [], ◌∷◌, ◌++◌, length, take, count_by, nat_lt, Result, Ok, Err, if◌then◌else◌}
 use Rattle.psplib_lex.specs.declared.lexer.TheConstants.{MOST_BYTES}
 use Rattle.psplib_lex.specs.Line.{Line, is_line_end, lines_of}
 use Rattle.rcpsp_model.specs.Project.{Project, IsAcyclic}
 use Rattle.rcpsp_model.specs.Chain.{IsChain, IsLeast}
 use Rattle.psplib_layout.specs.declared.fault.Fault.TheVariants.{TextTooLong, Cycle}
 use Rattle.psplib_layout.specs.declared.fault.Refusal.{Refusal}
+use Rattle.psplib_layout.specs.declared.fault.ReadError.{ReadError}
+use Rattle.psplib_layout.specs.declared.fault.ReadError.TheVariants as errors
 use Rattle.psplib_layout.specs.Reading.{◌>>=◌, refusal}
 use Rattle.psplib_layout.specs.Header.{header_in}
 use Rattle.psplib_layout.specs.Precedence.{JobRow, rows_numbers}
@@ -30,6 +32,11 @@ end_line text = count_by is_line_end text + 1
 -- the content of a text, or the first rule that it breaks, cycles apart
 unfoldable pub content_in : List ℕ → Result Content Refusal
 content_in text = if nat_lt MOST_BYTES (length text) then refusal TextTooLong 0 else layout_in (end_line text) (lines_of text)
+
+-- a refusal of the text because it is too long, or want of memory
+abbrev pub IsRefusedAsLong : List ℕ → ReadError → Type 0
+IsRefusedAsLong text errors.NoMemory = Unit {0}
+IsRefusedAsLong text (errors.Refused f) = (MOST_BYTES < length text) × (f ≡ record { fault = TextTooLong; line = 0 })
 
 -- ---- cycles, which are judged when all else is read
 

@@ -7,6 +7,7 @@ use Rattle.psplib_layout.specs.declared.fault.Refusal.{Refusal}
 use Rattle.psplib_layout.specs.declared.rule.Rule.{Rule}
 use Rattle.psplib_layout.specs.Reading.{◌>>=◌, judged, refusal}
 
+-- whether the bytes begin with the key
 abbrev pub begins_with : List ℕ → List ℕ → Bool
 begins_with [] bytes = true
 begins_with (k ∷ key) [] = false
@@ -33,6 +34,7 @@ first_of [] [] = None
 first_of [] (word ∷ words) = Some word
 first_of (b ∷ bytes) words = Some (b ∷ bytes)
 
+-- the first word behind a colon in this word, or else what later words give
 abbrev pub first_behind : Option (List ℕ) → List (List ℕ) → Option (Option (List ℕ)) → Option (Option (List ℕ))
 first_behind None words later = later
 first_behind (Some bytes) words later = Some (first_of bytes words)
@@ -61,6 +63,7 @@ keyed end key rule lines = do
   n ← valued rule line.0.number (header_value line.0.words)
   Ok (n, line.1)
 
+-- the lines behind a header line that has a colon
 abbrev pub has_colon : ℕ → Option (Option (List ℕ)) → List Line → Result (List Line) Refusal
 has_colon line None more = refusal MissingPart line
 has_colon line (Some value) more = Ok more

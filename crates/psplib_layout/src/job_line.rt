@@ -1,9 +1,10 @@
 ghost use Rattle.std.specs.Prelude.{◌≡◌, ◌≤◌, ◌-◌, take, length, All, Ok};
+ghost use Rattle.psplib_layout.specs.Layout.{IsWithinContentLimits};
 ghost use Rattle.psplib_layout.specs.Place.{Gives, rest_at};
 ghost use Rattle.psplib_layout.specs.Precedence.{rows_numbers};
 ghost use Rattle.psplib_layout.specs.Text.{line_of_word, job_line_in};
 
-use crate::content::JobRow;
+use crate::content::{Content, JobRow};
 use crate::fault::ReadError;
 use crate::place::Place;
 use crate::source::Source;
@@ -38,19 +39,18 @@ impl Source<'_> {
         0
     }
 
-    /// The line of a job's number in the precedence part of a text with these rows.
+    /// The line of a job's number in the precedence part of the text whose content this is.
     #[tactic(auto, unfolding(crate::specs::Text::job_line_in))]
-    pub fn job_line(&self, rows: &[JobRow], job: u32) -> Result<u32, ReadError>
-        requires few { length rows.now ≤ 128 }
-        requires successors { All (λ row. length row.successors ≤ 128) rows.now }
+    pub fn job_line(&self, content: &Content, job: u32) -> Result<u32, ReadError>
+        requires limits { IsWithinContentLimits content.now }
         requires some { 1 ≤ job }
-        requires within { job ≤ length rows.now }
+        requires within { job ≤ content.now.header.jobs }
         ensures { Gives (λ line. line) result
-            (job_line_in self.now.end self.now.words rows.now job) }
+            (job_line_in self.now.end self.now.words content.now.rows job) }
     {
         let (_, at) = self.header_at(Place::BEGIN)?;
         let begin = self.rows_begin_at(at)?;
-        let before = &rows[..job as usize - 1];
+        let before = &content.rows.as_slice()[..job as usize - 1];
         Ok(self.line_of_word(begin, count_of_numbers(before)))
     }
 }

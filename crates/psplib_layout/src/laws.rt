@@ -3,7 +3,7 @@
 ghost use Rattle.std.specs.Prelude.{◌≡◌, ◌↔◌, ◌≤◌, ℕ, List, length, Ok, Err};
 ghost use Rattle.psplib_lex.specs.Line.{Line, lines_of};
 ghost use Rattle.rcpsp_model.specs.declared.parts.Mode.{Mode};
-ghost use Rattle.rcpsp_model.specs.Project.{Project};
+ghost use Rattle.rcpsp_model.specs.Project.{Project, IsWithinLimits};
 ghost use Rattle.psplib_layout.specs.declared.fault.Refusal.{Refusal};
 ghost use Rattle.psplib_layout.specs.Reading.{read_wanted};
 ghost use Rattle.psplib_layout.specs.FirstFault.{FirstFault};
@@ -12,7 +12,7 @@ ghost use Rattle.psplib_layout.specs.Header.{Header, ReadsHeader, header_in};
 ghost use Rattle.psplib_layout.specs.Precedence.{JobRow, all_rows};
 ghost use Rattle.psplib_layout.specs.Requests.{all_modes};
 ghost use Rattle.psplib_layout.specs.Availabilities.{Amounts, all_amounts};
-ghost use Rattle.psplib_layout.specs.Layout.{Content, ReadsPrecedence, ReadsRequests, ReadsAvailabilities, ReadsLayout, precedence_in, requests_in, availabilities_in, layout_in};
+ghost use Rattle.psplib_layout.specs.Layout.{Content, ReadsPrecedence, ReadsRequests, ReadsAvailabilities, ReadsLayout, IsWithinContentLimits, project_of, precedence_in, requests_in, availabilities_in, layout_in};
 ghost use Rattle.psplib_layout.specs.Text.{HasContent, Reads, content_in, row_line, job_line_in};
 
 /// The header is read exactly where the lines have one.
@@ -75,4 +75,10 @@ pub fn first_fault_is_refused()
 pub fn job_lines_are_read()
     ensures { (end : ℕ) (text : List ℕ) (content : Content) (job : ℕ) (h : HasContent text content)
         → job_line_in end (lines_of text) content.rows job ≡ Ok (row_line h.layout.precedence.behind content.rows job) }
+{}
+
+/// A content is within the limits of its numbers, and the project that it describes is within the limits of projects.
+pub fn contents_are_within_limits()
+    ensures content { (text : List ℕ) (content : Content) → HasContent text content → IsWithinContentLimits content }
+    ensures project { (content : Content) → IsWithinContentLimits content → IsWithinLimits (project_of content) }
 {}

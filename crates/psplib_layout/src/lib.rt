@@ -13,6 +13,8 @@ mod precedence;
 mod requests;
 mod rule;
 mod source;
+#[cfg(test)]
+mod tests;
 mod text;
 mod title;
 

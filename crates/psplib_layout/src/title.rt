@@ -64,10 +64,7 @@ impl Source<'_> {
             return Err(refused(Fault::TextEnds, self.end));
         }
         if !self.has_title(at, key) {
-            return Err(refused(
-                Fault::MissingPart,
-                self.words.line_number(at.line),
-            ));
+            return Err(refused(Fault::MissingPart, self.words.line_number(at.line)));
         }
         Ok(Place {
             line: at.line + 1,
@@ -181,10 +178,7 @@ impl Source<'_> {
     {
         let behind = self.title_at(at, key)?;
         match self.value_at(at) {
-            None => Err(refused(
-                Fault::MissingPart,
-                self.words.line_number(at.line),
-            )),
+            None => Err(refused(Fault::MissingPart, self.words.line_number(at.line))),
             Some(_) => Ok(behind),
         }
     }

@@ -1,4 +1,4 @@
-use Rattle.std.proofs.Common.{◌≡◌, ◌+◌, ◌≤◌, length, subst, sym, arith}
+use Rattle.std.proofs.Common.{◌≤◌, length, subst, sym, arith}
 use Rattle.psplib_layout.proofs.JobLines.{count_more}
 use Rattle.psplib_layout.proofs.job_line.count_of_numbers.Goals as goal
 

@@ -1,4 +1,4 @@
-use Rattle.std.proofs.Common.{◌≡◌, ◌+◌, drop, map}
+use Rattle.std.proofs.Common.{◌≡◌, ◌+◌, drop}
 use Rattle.psplib_layout.specs.Requests.{all_modes}
 use Rattle.psplib_layout.specs.Layout.{mode_counts}
 use Rattle.psplib_layout.specs.Reading.{read_wanted}

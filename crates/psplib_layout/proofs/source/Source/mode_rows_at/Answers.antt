@@ -1,4 +1,4 @@
-use Rattle.std.proofs.Common.{◌≡◌, ◌-◌, ◌+◌}
+use Rattle.std.proofs.Common.{◌-◌, ◌+◌}
 use Rattle.std.proofs.lemmas.Result.{err_from_is_err_and}
 use Rattle.psplib_layout.specs.Requests.{mode_row, mode_rows}
 use Rattle.psplib_layout.specs.Reading.{read_wanted}
