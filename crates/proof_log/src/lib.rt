@@ -4,11 +4,14 @@
 mod letter;
 mod line;
 mod line_text;
+mod parsing;
+mod reading;
 mod report;
 mod words;
 mod writing;
 
 pub use line::{LogWords, ReportLine};
+pub use parsing::parse_line;
 pub use rcpsp_model::Verdict;
 pub use report::{Log, LogLine, Report};
 pub use writing::write_report;
