@@ -7,3 +7,4 @@ pub mod FoundLemmas
 pub mod AgainLemmas
 pub mod PartLemmas
 pub mod TextLemmas
+pub mod LineReaderLemmas

@@ -2,3 +2,4 @@ pub mod Line
 pub mod Report
 pub mod Text
 pub mod Reading
+pub mod Lines

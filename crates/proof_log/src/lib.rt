@@ -3,7 +3,9 @@
 
 mod letter;
 mod line;
+mod line_reader;
 mod line_text;
+mod lines;
 mod parsing;
 mod reading;
 mod report;
@@ -11,6 +13,8 @@ mod words;
 mod writing;
 
 pub use line::{LogWords, ReportLine};
+pub use line_reader::{LONGEST_LINE, LineReader, LineStep};
+pub use lines::lines_of;
 pub use parsing::parse_line;
 pub use rcpsp_model::Verdict;
 pub use report::{Log, LogLine, Report};
