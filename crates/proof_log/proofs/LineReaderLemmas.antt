@@ -1,10 +1,10 @@
 -- The lines that a reader finds are those of the bytes that it was fed.
-use Rattle.std.proofs.Common.{◌≡◌, ℕ, suc, ◌+◌, ◌-◌, ◌<◌, ◌≤◌, ◌∙◌, inl, inr, arith, refl, sym, ap, min, Bool, true, false, cond, not, append_assoc, List, [], ◌∷◌, ◌++◌, length, length-append, take, drop, Option, Some, None}
+use Rattle.std.proofs.Common.{◌≡◌, ℕ, suc, ◌+◌, ◌-◌, ◌<◌, ◌≤◌, ◌∙◌, inl, inr, arith, refl, sym, ap, min, Bool, true, false, cond, not, append_assoc, List, [], ◌∷◌, ◌++◌, length, length-append, length-drop, take, drop, Option, Some, None}
 use Rattle.std.specs.Prelude.{◌==◌, nat_lt, position, unwrap_or}
 use Rattle.std.specs.List.{position_or_len}
 use Rattle.std.proofs.lemmas.Bool.{cases_lt, cases_Bool}
 use Rattle.std.proofs.lemmas.Bool.Decides.{nat_tests}
-use Rattle.std.proofs.lemmas.List.{append-nil, take_all, drop_all}
+use Rattle.std.proofs.lemmas.List.{append-nil, take_all, drop_all, drop-drop}
 use Rattle.std.proofs.lemmas.List.Sums.{prefix_len-le-length}
 use Rattle.proof_log.specs.declared.line_reader.LineStep.{LineStep}
 use Rattle.proof_log.specs.declared.line_reader.LineStep.TheVariants.{More, Line, TooLong}
@@ -145,3 +145,59 @@ pub some_taken : (last : LineStep) (line piece : List ℕ) → (fed_after last l
 some_taken More line piece h = line_takes_some line piece h
 some_taken Line line piece h = line_takes_some [] piece h
 some_taken TooLong line piece h = absurd (cc)
+
+line_takes_all : (line piece : List ℕ) → (fed_line line piece).step ≡ More → length piece ≤ (fed_line line piece).taken
+unfolding fed_line
+line_takes_all line piece h = elim (cases_Bool (nat_lt 64 (length line + line_len piece))) [
+  | inl long ↦ absurd (cc (rw long at h))
+  | inr fits ↦ elim (cases_lt (line_len piece) (length piece)) [
+    | inl some ↦ let there : nat_lt (line_len piece) (length piece) ≡ true = grind (arith, nat_tests) in absurd (cc (rw (fits, there) at h))
+    | inr all ↦ rw fits (omega arith)
+  ]
+]
+
+-- where the line goes on, all of a piece was taken
+pub all_taken : (last : LineStep) (line piece : List ℕ) → (fed_after last line piece).step ≡ More → length piece ≤ (fed_after last line piece).taken
+all_taken More line piece h = line_takes_all line piece h
+all_taken Line line piece h = line_takes_all [] piece h
+all_taken TooLong line piece h = absurd (cc)
+
+module _ (reader new : ReaderState) (piece part : List ℕ) (at taken : ℕ) (whole : part ≡ drop at piece) (short : length reader.line ≤ 64) (after : new ≡ after_piece reader part) (same : taken ≡ (fed reader part).taken) where
+  left : (more : List ℕ) → lines_left reader (drop at piece ++ more) ≡ ended_by new.last new.line ++ lines_left new (drop (at + taken) piece ++ more)
+  left more =
+      let rest : drop taken part ≡ drop (at + taken) piece = ap (λ (xs : List ℕ). drop taken xs) whole ∙ drop-drop taken at piece ∙ ap (λ (i : ℕ). drop i piece) (omega arith) in
+      ap (λ (xs : List ℕ). lines_left reader (xs ++ more)) (sym whole)
+      ∙ found_fed reader part more short
+      ∙ ap (λ (r : ReaderState). ended_by r.last r.line ++ lines_left r (drop (fed reader part).taken part ++ more)) (sym after)
+      ∙ ap (λ (i : ℕ). ended_by new.last new.line ++ lines_left new (drop i part ++ more)) (sym same)
+      ∙ ap (λ (xs : List ℕ). ended_by new.last new.line ++ lines_left new (xs ++ more)) rest
+
+  -- a line that has ended joins the lines found
+  pub line_joins : new.last ≡ Line → (found : List (List ℕ)) (more : List ℕ) → (found ++ new.line ∷ []) ++ lines_left new (drop (at + taken) piece ++ more) ≡ found ++ lines_left reader (drop at piece ++ more)
+  line_joins step found more =
+      append_assoc found (new.line ∷ []) (lines_left new (drop (at + taken) piece ++ more))
+      ∙ ap (λ (xs : List (List ℕ)). found ++ xs) (ap (λ (s : LineStep). ended_by s new.line ++ lines_left new (drop (at + taken) piece ++ more)) (sym step) ∙ sym (left more))
+
+  -- where a piece has ended, the lines that are left are those of what comes
+  pub piece_ends : new.last ≡ More → (more : List ℕ) → lines_left new more ≡ lines_left reader (drop at piece ++ more)
+  piece_ends step more =
+      let last : (fed reader part).step ≡ More = ap (λ (r : ReaderState). r.last) (sym after) ∙ step in
+      let all = all_taken reader.last reader.line part last in
+      let none : drop (at + taken) piece ≡ [] = drop_all (at + taken) piece (omega (arith, length-drop at piece, ap length whole)) in
+      sym (left more ∙ ap (λ (s : LineStep). ended_by s new.line ++ lines_left new (drop (at + taken) piece ++ more)) step ∙ ap (λ (xs : List ℕ). lines_left new (xs ++ more)) none)
+
+  -- after a line that is too long nothing is left
+  pub nothing_left : new.last ≡ TooLong → (more : List ℕ) → lines_left new more ≡ lines_left reader (drop at piece ++ more)
+  nothing_left step more =
+      ap (λ (s : LineStep). left_after s new.line more) step
+      ∙ sym (left more ∙ ap (λ (s : LineStep). ended_by s new.line ++ left_after s new.line (drop (at + taken) piece ++ more)) step)
+
+-- nothing is found in nothing
+pub nothing_found : (reader : ReaderState) → lines_left reader [] ≡ []
+unfolding lines_after
+nothing_found reader = at reader.last
+  where
+    at : (last : LineStep) → left_after last reader.line [] ≡ []
+    at More = refl
+    at Line = refl
+    at TooLong = refl
