@@ -44,7 +44,7 @@ fn push_number_word(text: &mut LineText, number: Option<u32>)
     push_number(text, number);
 }
 
-fn has_number(letter: u8) -> bool
+pub fn has_number(letter: u8) -> bool
     ensures { result ≡ Rattle.proof_log.specs.Line.has_number letter }
 {
     letter == WORK_BOUND
