@@ -1,4 +1,0 @@
-pub mod Fronts
-pub mod Needs
-pub mod Branches
-pub mod Leaves
