@@ -113,8 +113,7 @@ EligibleTo P F n set = (j : ℕ) → 1 ≤ j → (member set j ≡ true) ↔ (Is
 pub eligible-more : (P : Project) (F : List Entry) (n : ℕ) (old new : JobSet) → EligibleTo P F n old → IsEligible P F (n + 1) → ((i : ℕ) → 1 ≤ i → member new i ≡ (member old i || eqb i (n + 1))) →
     EligibleTo P F (n + 1) new
 eligible-more P F n old new h el more j low =
-    let both = h j low in
-    (
+    let both = h j low in (
       λ e. elim (or_cases (member old j) (eqb j (n + 1)) (sym (more j low) ∙ e)) [
         | inl a ↦ let was = both.0 a in (was.0, let up = was.1 in omega arith)
         | inr b ↦ let same = eqb-true j (n + 1) b in (subst (IsEligible P F) (sym same) el, omega arith)
@@ -127,8 +126,7 @@ eligible-more P F n old new h el more j low =
 
 pub eligible-same : (P : Project) (F : List Entry) (n : ℕ) (old : JobSet) → EligibleTo P F n old → (IsEligible P F (n + 1) → ⊥) → EligibleTo P F (n + 1) old
 eligible-same P F n old h other j low =
-    let both = h j low in
-    (
+    let both = h j low in (
       λ e. let was = both.0 e in (was.0, let up = was.1 in omega arith),
       λ own. elim (cases_eq j (n + 1)) [
         | inl e ↦ absurd (other (subst (IsEligible P F) e own.0))

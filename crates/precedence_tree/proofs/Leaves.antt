@@ -30,8 +30,7 @@ ones-all f [] h = (omega arith, λ e x i. absurd i)
 ones-all f (y ∷ ys) h =
     let ih = ones-all f ys h in
     let few = ih.0 in
-    let one = h y in
-    (
+    let one = h y in (
       (let le : f y + total f ys ≤ suc (length ys) = omega arith in le),
       λ (e : f y + total f ys ≡ suc (length ys)) x (i : In (y ∷ ys) x). elim i [
         | inl q ↦ subst (λ (z : Entry). f z ≡ 1) q (let here : f y ≡ 1 = omega arith in here)

@@ -12,8 +12,7 @@ loop-done-init c = (by_mode-none c.args.project.now c.args.node.now.front c.args
 
 pub loop-done-preserved : goal.loop-done-preserved
 loop-done-preserved c =
-    let Stands = StandsWherePlaced c.args.project.now in
-    (
+    let Stands = StandsWherePlaced c.args.project.now in (
       by_mode-push c.args.project.now c.args.node.now.front c.args.job c.loop-done.done c.args.all.now.items c.loop-done.all.items c.push.new.self.items c.in_ok-next.next c.loop-done.invariant.0 c.in_ok-next.ensures.child c.in_ok-push.ensures.items,
       subst (All Stands) (sym c.in_ok-push.ensures.items) (All-push Stands c.loop-done.all.items c.in_ok-next.next c.loop-done.invariant.1 c.in_ok-next.ensures.stands),
     )

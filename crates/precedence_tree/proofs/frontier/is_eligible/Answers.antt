@@ -14,8 +14,7 @@ returns c =
     let P = c.args.project.now in
     let F = c.args.node.now.front in
     let j = c.args.job in
-    let acyclic = c.known.ensures.acyclic in
-    (
+    let acyclic = c.known.ensures.acyclic in (
       λ e. eligible-sets P F j c.placed-placed.result c.preds.result acyclic c.requires c.placed-placed.ensures c.preds.ensures (sym (c.placed-placed.ensures j c.requires.0) ∙ sym c.has.ensures ∙ c.if-has.false) (c.is_within.ensures.0 e),
       λ el. c.is_within.ensures.1 (λ i low before. c.placed-placed.ensures i low ∙ el.preds i (sym (c.preds.ensures i low) ∙ before)),
     )
