@@ -1,3 +1,5 @@
+ghost use Rattle.std.specs.Prelude.{◌≡◌, Some};
+
 use crate::line::{LogWords, ReportLine};
 use crate::line_text::line_text;
 use crate::lines::lines_of;
@@ -7,7 +9,6 @@ use crate::writing::write_report;
 use project_net::Schedule;
 use rcpsp_model::{Placing, Verdict};
 use sched_base::{Fate, List, SureSink};
-use std::alloc::{AllocError, Global};
 use std::test::Fail;
 
 /// A line of the log that isn't the root's.
@@ -108,34 +109,50 @@ fn other_bytes_are_no_line(rt: HostRuntime) -> Result<(), Fail> {
 const SOLVED: &[u8] =
     b"psplib-report 1\nverdict optimal\nduration 5\nlower 5\njob 1 1 0\njob 2 1 0\njob 3 1 3\njob 4 1 5\nlog yes\n- - - E\n1 1 0 E\n2 1 0 E\n3 1 3 T\n3 1 0 E\n2 1 2 T\nend\n";
 
-fn places_of(alloc: Global, starts: &[u32]) -> Result<List<Placing>, AllocError> {
-    let mut places = Vec::new(alloc);
-    for start in starts {
-        places.push(Placing {
-            mode: 1,
-            start: *start,
-        })?;
-    }
-    Ok(List::from_vec(places))
+fn place(start: u32) -> Placing
+    ensures { result ≡ record { mode = 1; start = start } }
+{
+    Placing { mode: 1, start }
 }
 
-fn log_of(alloc: Global, nodes: &[(u8, u32, Fate)]) -> Result<List<LogLine>, AllocError> {
-    let mut log = Vec::new(alloc);
-    log.push(LogLine {
+fn line(job: u8, start: u32, fate: Fate) -> LogLine
+    ensures { result ≡ record { job = job; mode = 1; start = Some start; fate = fate } }
+{
+    LogLine {
+        job,
+        mode: 1,
+        start: Some(start),
+        fate,
+    }
+}
+
+#[test]
+fn report_as_text(rt: HostRuntime) -> Result<(), Fail> {
+    let alloc = rt.alloc();
+    let places = vec![in alloc; place(0), place(0), place(3), place(5)]?;
+    let root = LogLine {
         job: 0,
         mode: 0,
         start: None,
         fate: Fate::Expanded,
-    })?;
-    for (job, start, fate) in nodes {
-        log.push(LogLine {
-            job: *job,
-            mode: 1,
-            start: Some(*start),
-            fate: *fate,
-        })?;
-    }
-    Ok(List::from_vec(log))
+    };
+    let log = vec![in alloc;
+        root,
+        line(1, 0, Fate::Expanded),
+        line(2, 0, Fate::Expanded),
+        line(3, 3, Fate::TailBound),
+        line(3, 0, Fate::Expanded),
+        line(2, 2, Fate::TailBound),
+    ]?;
+    let report = Report {
+        verdict: Verdict::Optimal { duration: 5 },
+        best: Some(Schedule::new(List::from_vec(places))),
+        log: Some(List::from_vec(log)),
+    };
+    let mut out = SureSink::new(alloc, 65_536)?;
+    write_report(&mut out, &report)?;
+    assert_eq!(rt; out.bytes(), SOLVED);
+    Ok(())
 }
 
 #[test]
