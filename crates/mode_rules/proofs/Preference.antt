@@ -4,8 +4,7 @@ use Rattle.std.specs.Prelude.{IsTrue}
 use Rattle.std.proofs.lemmas.Bool.{false≢true}
 use Rattle.rcpsp_model.specs.Project.{Project, duration, request, need, renewables, nonrenewables, IsMode, IsRenewable, IsNonrenewable}
 use Rattle.rcpsp_model.specs.Modes.{time, renewable, nonrenewable, TakesNoMore, TakesLess, IsInefficientBy}
-use Rattle.rcpsp_model.proofs.Numbers.{Decided, lt_decided, least_below}
-use Rattle.rcpsp_model.proofs.Usage.{both_decided}
+use Rattle.rcpsp_model.proofs.Numbers.{Decided, lt_decided, least_below, both_decided}
 use Rattle.rcpsp_model.proofs.ModeLemmas.{renewable_decided, nonrenewable_decided}
 
 takes_less-excludes : (P : Project) (j n m : ℕ) → TakesLess P j n m → TakesNoMore P j m n → ⊥

@@ -1,24 +1,24 @@
 -- What holds of entries that were placed in turn.
-use Rattle.std.proofs.Common.{◌≡◌, ℕ, zero, suc, ◌+◌, ◌*◌, ◌-◌, ◌<◌, ◌≤◌, max, ◌⊎◌, inl, inr, arith, refl, sym, ap, subst, ◌∙◌, List, [], ◌∷◌, ◌++◌, length, length-append, append_assoc, replicate, Bool, true, false, cond, eqb, ◌||◌}
-use Rattle.std.specs.Prelude.{filter, All, Option, Some, IfSome}
+use Rattle.std.proofs.Common.{◌≡◌, ℕ, ◌+◌, ◌*◌, ◌<◌, ◌≤◌, max, inl, inr, arith, refl, sym, ap, subst, ◌∙◌, List, [], ◌∷◌, ◌++◌, length, length-append, append_assoc, replicate, Bool, true, false, cond, eqb, ◌||◌}
+use Rattle.std.specs.Prelude.{filter, Option, Some, IfSome}
 use Rattle.std.proofs.lemmas.Bool.{cases_eq, eq-eqb, ne_eqb}
 use Rattle.std.proofs.lemmas.List.{append-nil, length-replicate}
 use Rattle.sched_base.specs.declared.job_set.JobSet.{JobSet}
 use Rattle.sched_base.specs.JobSet.{member}
 use Rattle.rcpsp_model.specs.declared.parts.Entry.{Entry}
 use Rattle.rcpsp_model.specs.declared.parts.Placing.{Placing}
-use Rattle.rcpsp_model.specs.Project.{Project, IsJob, IsMode, job_count, duration, is_before, Before, IsAcyclic, IsWithinLimits, IsProject}
-use Rattle.rcpsp_model.specs.Schedule.{calm, finish, end_of, entries_from, AreOf, IsOf, KeepsCapacities}
+use Rattle.rcpsp_model.specs.Project.{Project, IsJob, IsMode, job_count, is_before, Before, IsAcyclic, IsWithinLimits, IsProject}
+use Rattle.rcpsp_model.specs.Schedule.{calm, finish, end_of, entries_from, AreOf, IsOf}
 use Rattle.rcpsp_model.specs.Chain.{IsLeast}
 use Rattle.rcpsp_model.specs.Modes.{IsExecutable}
-use Rattle.rcpsp_model.specs.Tree.{has_job, IsEligible, IsLeaf, Fits, InTurn, entry_at}
+use Rattle.rcpsp_model.specs.Tree.{has_job, IsEligible, Fits, InTurn, entry_at}
 use Rattle.rcpsp_model.specs.Plan.{ModeRule, CanRun, IsPlacedInTurn, IsScheduledNext, IsUrgent, IsSerialPlan}
 use Rattle.rcpsp_model.proofs.Lists.{In, In-push, In-filter, filter-In, All-from_In, In-All, total, total-le}
 use Rattle.rcpsp_model.proofs.Entries.{DistinctJobs, distinct-push}
 use Rattle.rcpsp_model.proofs.Usage.{finish-le-end, end-le, calm_law}
 use Rattle.rcpsp_model.proofs.Successors.{before-job}
 use Rattle.rcpsp_model.proofs.FrontLemmas.{in_turn, keeps-push, end-push, duration-limit, fits-past_end, fits-executable, part-jobs, spot, each}
-use Rattle.rcpsp_model.proofs.DominanceLemmas.{sound-push}
+use Rattle.rcpsp_model.proofs.Sound.{sound-push}
 use Rattle.rcpsp_model.proofs.PlanLemmas.{IsPlan}
 use Rattle.profiles.specs.Placed.{Placed, IsProfileOf}
 use Rattle.profiles.specs.Room.{FitsFrom}
@@ -46,6 +46,7 @@ pub record IsPlacing (P : Project) (F : List Entry) : Type 0 where
 placing-push : (P : Project) → IsAcyclic P → (F : List Entry) (e : Entry) → IsPlacing P F → IsPlacedInTurn P F e → IsPlacing P (F ++ e ∷ [])
 placing-push P a F e p f = record {
   plan = record {
+    jobs = λ x i. elim (In-push F e x i) [ inl j ↦ p.jobs x j | inr q ↦ subst (λ (z : Entry). IsJob P z.job) q f.eligible.job ];
     distinct = distinct-push F e p.plan.distinct f.eligible.unplaced;
     keeps = keeps-push P F e p.plan.keeps f.can_run.fits;
     sound = sound-push P a F e p.plan.sound f.eligible f.can_run.after_preds;
@@ -56,7 +57,7 @@ placing-push P a F e p f = record {
 
 placing-none : (P : Project) → IsPlacing P []
 placing-none P = record {
-  plan = record { distinct = tt; keeps = λ k u r. omega arith; sound = record { closed = λ i j b h. cc; done = λ x y i j b. absurd i }; modes = λ e i. absurd i };
+  plan = record { jobs = λ e i. absurd i; distinct = tt; keeps = λ k u r. omega arith; sound = record { closed = λ i j b h. cc; done = λ x y i j b. absurd i }; modes = λ e i. absurd i };
   jobs = λ e i. absurd i;
 }
 
