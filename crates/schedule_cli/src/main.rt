@@ -20,7 +20,10 @@ use crate::run::run;
 use crate::status::Status;
 use crate::std_sink::StdSink;
 use sched_base::OpenGate;
+use std::env::Env;
 use std::process::ExitCode;
+use std::rt::Files;
+use std::thread::Threads;
 use std::{env, io};
 
 /// What the program says on standard error where its words are no command.
@@ -36,7 +39,10 @@ fn words_after_name<R: Env + AllocGlobal>(rt: &R) -> io::Result<Vec<String>> {
 }
 
 /// Runs the program over files and the standard output.
-fn run_on_system(rt: &HostRuntime, words: &[String]) -> Status {
+fn run_on_system<R: Files + Print + Threads + Sync + AllocGlobal>(
+    rt: &R,
+    words: &[String],
+) -> Status {
     let mut shelf = FileShelf::new(rt);
     let mut out = StdSink::new(rt);
     run(rt, rt.alloc(), words, &mut shelf, &mut out, &OpenGate)

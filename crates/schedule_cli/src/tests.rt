@@ -2,6 +2,8 @@ use crate::run::run;
 use crate::status::Status;
 use sched_base::{MemShelf, MemSink, OpenGate};
 use std::alloc::{AllocError, Global};
+use std::process::Abort;
+use std::thread::Threads;
 
 /// The rows of a project text that differ between projects.
 struct Rows<'a> {
@@ -45,7 +47,7 @@ fn words_of(alloc: Global, text: &str) -> Result<Vec<String>, AllocError> {
 }
 
 /// Runs the program on these words, and compares its status and what it writes.
-fn check(rt: &HostRuntime, words: &str, shelf: &mut MemShelf, out: &mut MemSink, want: (Status, &str)) {
+fn check<R: Threads + Abort + Sync + AllocGlobal>(rt: &R, words: &str, shelf: &mut MemShelf, out: &mut MemSink, want: (Status, &str)) {
     let words = words_of(rt.alloc(), words).expect(rt, "memory");
     let status = run(rt, rt.alloc(), &words, shelf, out, &OpenGate);
     assert_eq!(rt; status, want.0);
@@ -67,7 +69,7 @@ const B: Rows<'static> = Rows {
 };
 
 /// Solves the project of these rows.
-fn check_solved(rt: &HostRuntime, rows: &Rows<'_>, want: (Status, &str)) {
+fn check_solved<R: Threads + Abort + Sync + AllocGlobal>(rt: &R, rows: &Rows<'_>, want: (Status, &str)) {
     let text = text_of(rt.alloc(), rows).expect(rt, "memory");
     let none = Vec::new(rt.alloc());
     let mut shelf = shelf_of(rt.alloc(), text.as_str(), none).expect(rt, "memory");
