@@ -1,0 +1,11 @@
+//! Project texts: the project that a text is, or the first rule that the text breaks, with its line.
+#![tactic(auto)]
+
+mod cycle;
+mod drafting;
+mod reader;
+#[cfg(test)]
+mod tests;
+
+pub use psplib_layout::{Fault, ReadError, Refusal};
+pub use reader::read_project;
