@@ -1,10 +1,10 @@
 -- A mode takes less than another exactly where the other doesn't take no more.
-use Rattle.std.proofs.Common.{◌≡◌, ℕ, ◌+◌, ◌<◌, ◌≤◌, ◌⊎◌, inl, inr, arith, refl, Bool, true, false, not}
+use Rattle.std.proofs.Common.{ℕ, ◌+◌, ◌<◌, ◌≤◌, inl, inr, arith, refl, Bool, true, false, not}
 use Rattle.std.specs.Prelude.{IsTrue}
 use Rattle.std.proofs.lemmas.Bool.{false≢true}
 use Rattle.rcpsp_model.specs.Project.{Project, duration, request, need, renewables, nonrenewables, IsMode, IsRenewable, IsNonrenewable}
 use Rattle.rcpsp_model.specs.Modes.{time, renewable, nonrenewable, TakesNoMore, TakesLess, IsInefficientBy}
-use Rattle.rcpsp_model.proofs.Numbers.{Decided, lt_decided, least_below}
+use Rattle.rcpsp_model.proofs.Numbers.{lt_decided, least_below}
 use Rattle.rcpsp_model.proofs.Usage.{both_decided}
 use Rattle.rcpsp_model.proofs.ModeLemmas.{renewable_decided, nonrenewable_decided}
 

@@ -1,5 +1,5 @@
 -- When the predecessors of a job are done, one entry further.
-use Rattle.std.proofs.Common.{◌≡◌, ℕ, ◌+◌, ◌<◌, ◌≤◌, max, arith, refl, ap, ◌∙◌, List, [], ◌∷◌, ◌++◌, length, get_or, take, cond, Bool, true, false}
+use Rattle.std.proofs.Common.{◌≡◌, ℕ, ◌+◌, ◌<◌, max, arith, ap, ◌∙◌, List, [], ◌∷◌, ◌++◌, length, get_or, take, cond, Bool, true, false}
 use Rattle.std.specs.Prelude.{filter}
 use Rattle.std.specs.Ordering.{nat_cmp, ord_max}
 use Rattle.std.proofs.lemmas.Bool.Decides.{nat_tests}

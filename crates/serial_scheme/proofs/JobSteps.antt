@@ -1,8 +1,8 @@
 -- The most urgent open job, one job further.
-use Rattle.std.proofs.Common.{◌≡◌, ℕ, zero, suc, ◌+◌, ◌<◌, ◌≤◌, ◌⊎◌, inl, inr, arith, refl, sym, ap, subst, ◌∙◌, Bool, true, false}
+use Rattle.std.proofs.Common.{◌≡◌, ℕ, zero, suc, ◌+◌, ◌<◌, ◌≤◌, ◌⊎◌, inl, inr, arith, refl, sym, subst, Bool, true}
 use Rattle.std.specs.Prelude.{Option, Some, None, IfSome, IfNone}
 use Rattle.std.proofs.lemmas.Bool.{cases_eq, cases_lt, cases_Bool}
-use Rattle.rcpsp_model.specs.Project.{Project, Before, IsJob, IsAcyclic, job_count}
+use Rattle.rcpsp_model.specs.Project.{Project, IsJob, IsAcyclic, job_count}
 use Rattle.rcpsp_model.specs.Chain.{IsTail}
 use Rattle.rcpsp_model.proofs.TailLemmas.{has_tail_law}
 use Rattle.serial_scheme.specs.Priority.{IsOpen, HasLessTail, HasNoMoreTail, IsMoreUrgent, IsMostUrgent}

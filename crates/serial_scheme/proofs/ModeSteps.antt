@@ -1,11 +1,10 @@
 -- The total need, one resource further, and the mode of a rule, one mode further.
-use Rattle.std.proofs.Common.{◌≡◌, ℕ, zero, suc, ◌+◌, ◌*◌, ◌<◌, ◌≤◌, ◌⊎◌, inl, inr, arith, refl, sym, ap, subst, ◌∙◌, List, [], ◌∷◌, ◌++◌, add-one}
+use Rattle.std.proofs.Common.{◌≡◌, ℕ, zero, suc, ◌+◌, ◌<◌, ◌≤◌, ◌⊎◌, inl, inr, arith, sym, ap, subst, ◌∙◌, [], ◌∷◌, ◌++◌}
 use Rattle.std.specs.Prelude.{Option, Some, None, IfSome, IfNone, sum_by}
 use Rattle.std.proofs.lemmas.Bool.{cases_eq, cases_lt}
 use Rattle.std.proofs.lemmas.List.Sums.{sum_by_push}
-use Rattle.rcpsp_model.specs.Project.{Project, need, numbers_from, modes_of, duration, IsMode}
-use Rattle.rcpsp_model.specs.Modes.{IsExecutable, total_need}
-use Rattle.rcpsp_model.specs.Plan.{IsShortestMode, IsCheapestMode}
+use Rattle.rcpsp_model.specs.Project.{Project, need, numbers_from, IsMode}
+use Rattle.rcpsp_model.specs.Modes.{IsExecutable}
 use Rattle.serial_scheme.specs.declared.mode_rule.ModeRule.{ModeRule}
 use Rattle.serial_scheme.specs.declared.mode_rule.ModeRule.TheVariants.{Shortest, Cheapest}
 use Rattle.serial_scheme.specs.Rules.{HasMode, HasNoMode, IsLighter, weight_of}

@@ -1,17 +1,17 @@
 -- What holds of entries that were placed in turn.
-use Rattle.std.proofs.Common.{◌≡◌, ℕ, zero, suc, ◌+◌, ◌*◌, ◌-◌, ◌<◌, ◌≤◌, max, ◌⊎◌, inl, inr, arith, refl, sym, ap, subst, ◌∙◌, List, [], ◌∷◌, ◌++◌, length, length-append, append_assoc, replicate, Bool, true, false, cond, eqb, ◌||◌}
-use Rattle.std.specs.Prelude.{filter, All, Option, Some, IfSome}
+use Rattle.std.proofs.Common.{◌≡◌, ℕ, ◌+◌, ◌*◌, ◌<◌, ◌≤◌, max, inl, inr, arith, refl, sym, ap, subst, ◌∙◌, List, [], ◌∷◌, ◌++◌, length, length-append, append_assoc, replicate, Bool, true, false, cond, eqb, ◌||◌}
+use Rattle.std.specs.Prelude.{filter, Option, Some, IfSome}
 use Rattle.std.proofs.lemmas.Bool.{cases_eq, eq-eqb, ne_eqb}
 use Rattle.std.proofs.lemmas.List.{append-nil, length-replicate}
 use Rattle.sched_base.specs.declared.job_set.JobSet.{JobSet}
 use Rattle.sched_base.specs.JobSet.{member}
 use Rattle.rcpsp_model.specs.declared.parts.Entry.{Entry}
 use Rattle.rcpsp_model.specs.declared.parts.Placing.{Placing}
-use Rattle.rcpsp_model.specs.Project.{Project, IsJob, IsMode, job_count, duration, is_before, Before, IsAcyclic, IsWithinLimits, IsProject}
-use Rattle.rcpsp_model.specs.Schedule.{calm, finish, end_of, entries_from, AreOf, IsOf, KeepsCapacities}
+use Rattle.rcpsp_model.specs.Project.{Project, IsJob, IsMode, job_count, is_before, Before, IsAcyclic, IsWithinLimits, IsProject}
+use Rattle.rcpsp_model.specs.Schedule.{calm, finish, end_of, entries_from, AreOf, IsOf}
 use Rattle.rcpsp_model.specs.Chain.{IsLeast}
 use Rattle.rcpsp_model.specs.Modes.{IsExecutable}
-use Rattle.rcpsp_model.specs.Tree.{has_job, IsEligible, IsLeaf, Fits, InTurn, entry_at}
+use Rattle.rcpsp_model.specs.Tree.{has_job, IsEligible, Fits, InTurn, entry_at}
 use Rattle.rcpsp_model.specs.Plan.{ModeRule, CanRun, IsPlacedInTurn, IsScheduledNext, IsUrgent, IsSerialPlan}
 use Rattle.rcpsp_model.proofs.Lists.{In, In-push, In-filter, filter-In, All-from_In, In-All, total, total-le}
 use Rattle.rcpsp_model.proofs.Entries.{DistinctJobs, distinct-push}

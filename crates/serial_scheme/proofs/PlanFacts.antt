@@ -1,10 +1,10 @@
 -- What holds of every plan by a mode rule, and when there is none.
-use Rattle.std.proofs.Common.{◌≡◌, ℕ, ◌+◌, ◌*◌, ◌<◌, ◌≤◌, ◌⊎◌, inl, inr, arith, refl, sym, ap, subst, ◌∙◌, List, [], ◌∷◌, ◌++◌, length}
+use Rattle.std.proofs.Common.{◌≡◌, ℕ, ◌+◌, ◌<◌, ◌≤◌, inl, inr, arith, refl, sym, ap, subst, ◌∙◌, List, [], ◌∷◌, length}
 use Rattle.std.specs.Prelude.{Option, Some, None, MatchOption, IfSome, IfNone, All, Contains}
 use Rattle.rcpsp_model.specs.declared.parts.Entry.{Entry}
 use Rattle.rcpsp_model.specs.declared.parts.Placing.{Placing}
-use Rattle.rcpsp_model.specs.Project.{Project, job_count, nonrenewables, IsJob, IsMode, IsAcyclic, IsProject}
-use Rattle.rcpsp_model.specs.Schedule.{calm, finish, end_of, entries, entries_from, IsFeasible, KeepsBudgets}
+use Rattle.rcpsp_model.specs.Project.{Project, job_count, nonrenewables, IsMode, IsAcyclic, IsProject}
+use Rattle.rcpsp_model.specs.Schedule.{calm, end_of, entries, entries_from, IsFeasible, KeepsBudgets}
 use Rattle.rcpsp_model.specs.Modes.{IsExecutable}
 use Rattle.rcpsp_model.specs.Tree.{InTurn}
 use Rattle.rcpsp_model.specs.Plan.{ModeRule as Rules, IsShortestMode, IsCheapestMode, IsPlacedInTurn, IsScheduledNext, IsSerialPlan, IsPlanBy, HasNoPlanBy, IsFirstPlan}
@@ -18,7 +18,7 @@ use Rattle.rcpsp_model.proofs.OnePlanLemmas.{one_plan_law}
 use Rattle.rcpsp_model.proofs.TreeLemmas.{same-placings}
 use Rattle.serial_scheme.specs.declared.mode_rule.ModeRule.{ModeRule}
 use Rattle.serial_scheme.specs.declared.mode_rule.ModeRule.TheVariants.{Shortest, Cheapest}
-use Rattle.serial_scheme.specs.Rules.{HasMode, HasNoMode, SomeHasNoMode}
+use Rattle.serial_scheme.specs.Rules.{HasMode, SomeHasNoMode}
 use Rattle.serial_scheme.proofs.PlacedLemmas.{in_turn-weaker, as-placed, length-placing, scheduled-placing, ends-soon}
 
 pub has_mode-is : (rule : ModeRule) (P : Project) (j m : ℕ) → HasMode rule P j m → IsMode P j m × IsExecutable P j m

@@ -1,4 +1,4 @@
-use Rattle.std.proofs.Common.{◌-◌, arith, length, get_or, subst, sym, List, ◌∙◌}
+use Rattle.std.proofs.Common.{arith, get_or, subst, sym, List, ◌∙◌}
 use Rattle.std.proofs.lemmas.List.{take_all}
 use Rattle.rcpsp_model.specs.declared.parts.Entry.{Entry}
 use Rattle.rcpsp_model.specs.declared.parts.Placing.{Placing}

@@ -1,7 +1,4 @@
-use Rattle.std.proofs.Common.{◌≡◌, ℕ, ◌-◌, length, get_or, take}
-use Rattle.rcpsp_model.specs.declared.parts.Entry.{Entry}
-use Rattle.rcpsp_model.specs.Project.{job_count}
-use Rattle.rcpsp_model.proofs.Lists.{In}
+use Rattle.std.proofs.Common.{take}
 use Rattle.serial_scheme.proofs.PlaceSteps.{HasPlaces}
 use Rattle.serial_scheme.proofs.outcome.schedule_of.Given as goal
 

@@ -1,4 +1,4 @@
-use Rattle.std.proofs.Common.{arith, refl, subst, sym, ap, ◌∙◌, List, [], length}
+use Rattle.std.proofs.Common.{arith, refl, subst, sym, ap, List, [], length}
 use Rattle.std.proofs.lemmas.Bool.{false≢true}
 use Rattle.rcpsp_model.specs.declared.parts.Entry.{Entry}
 use Rattle.rcpsp_model.specs.Schedule.{AreOf, KeepsBudgets, Agrees}

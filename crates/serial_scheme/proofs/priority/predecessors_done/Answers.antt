@@ -1,4 +1,4 @@
-use Rattle.std.proofs.Common.{◌≡◌, ◌+◌, ◌-◌, arith, ap, sym, ◌∙◌, get_or}
+use Rattle.std.proofs.Common.{◌≡◌, ◌+◌, arith, sym, ◌∙◌, get_or}
 use Rattle.rcpsp_model.specs.Project.{is_before}
 use Rattle.rcpsp_model.specs.Schedule.{IsOf}
 use Rattle.serial_scheme.proofs.EntrySteps.{done-more, done-same, no_entry, max_is}
