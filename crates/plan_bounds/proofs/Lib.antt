@@ -1,0 +1,4 @@
+pub mod RestSteps
+pub mod TailSteps
+pub mod WorkSteps
+pub mod LowerSteps
