@@ -131,6 +131,21 @@ const USAGE: [(u32, u64, u64); 19] = [
     (18, 0, 0),
 ];
 
+/// Places the jobs at their starts, each of which is the earliest from itself on.
+fn place_all(rt: &HostRuntime, project: &Project, profile: &mut Profile)
+    requires { IsProfileOf project.now profile.old }
+    ensures { IsProfileOf project.now profile.new }
+{
+    for (job, start) in STARTS {
+        assert_eq!(rt;
+            earliest_from(rt, project, profile, job, start),
+            Some(start),
+            "job {job}"
+        );
+        place_at(rt, project, profile, job, start);
+    }
+}
+
 #[test]
 fn usage_of_a_plan(rt: HostRuntime) -> Result<(), Fail> {
     let project = project_of(rt.alloc(), &JOBS, [14, 10])?;

@@ -13,3 +13,7 @@ pub mod TailLemmas
 pub mod EndLemmas
 pub mod RankLemmas
 pub mod RefusalLemmas
+pub mod Appended
+pub mod HorizonLemmas
+pub mod Listed
+pub mod PrintLemmas

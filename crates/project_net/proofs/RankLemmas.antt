@@ -1,8 +1,8 @@
 -- Places in the order are ranks.
-use Rattle.std.proofs.Common.{◌≡◌, ℕ, zero, suc, ◌+◌, ◌-◌, ◌<◌, ◌≤◌, arith, refl, sym, ap, subst, ◌∙◌, List, [], ◌∷◌, ◌++◌, length, get_or, take}
+use Rattle.std.proofs.Common.{◌≡◌, ℕ, zero, suc, ◌+◌, ◌-◌, ◌<◌, arith, sym, ap, subst, ◌∙◌, List, [], ◌∷◌, ◌++◌, length, take}
 use Rattle.std.specs.Prelude.{slice_index}
 use Rattle.std.proofs.lemmas.List.{take_more, length-take-le}
-use Rattle.rcpsp_model.specs.Project.{Project, IsJob, job_count}
+use Rattle.rcpsp_model.specs.Project.{Project, job_count}
 use Rattle.project_net.specs.Order.{InTurn, IsLowestFirst, IsTopological, IsRank, AreApart, AreFirstRanks, AreRanks}
 use Rattle.project_net.proofs.Taken.{one-place}
 

@@ -5,6 +5,7 @@ use Rattle.rcpsp_model.specs.Project.{Project, Activity, IsModeWithinLimits}
 use Rattle.project_net.specs.declared.draft.Draft.{Draft}
 use Rattle.project_net.specs.declared.draft.DraftJob.{DraftJob}
 
+-- what stands past the last job
 abbrev pub no_job : DraftJob
 no_job = record { modes = []; successors = [] }
 

@@ -5,3 +5,5 @@ pub mod Tails
 pub mod Flat
 pub mod Flatten
 pub mod Prepared
+pub mod Canonical
+pub mod Printing

@@ -1,8 +1,8 @@
 -- Chains of pairs, cycles, and orders of the jobs.
-use Rattle.std.specs.Prelude.{◌≡◌, ℕ, zero, suc, ◌+◌, ◌-◌, ◌<◌, ◌≤◌, ◌↔◌, ◌||◌, ◌&&◌, Bool, true, false, List, [], ◌∷◌, ◌++◌, length, slice_index, SomeIndex}
+use Rattle.std.specs.Prelude.{◌≡◌, ℕ, ◌+◌, ◌-◌, ◌<◌, ◌≤◌, ◌↔◌, ◌||◌, ◌&&◌, Bool, true, false, List, [], ◌∷◌, ◌++◌, length, slice_index, SomeIndex}
 use Rattle.sched_base.specs.declared.job_set.JobSet.{JobSet}
 use Rattle.sched_base.specs.JobSet.{member}
-use Rattle.rcpsp_model.specs.Project.{Project, Before, is_before, IsJob, job_count}
+use Rattle.rcpsp_model.specs.Project.{Project, Before, IsJob, job_count}
 use Rattle.project_net.specs.Draft.{has}
 use Rattle.project_net.specs.Flat.{row}
 
@@ -14,16 +14,6 @@ pub data Leads (P : Project) : ℕ → ℕ → Type 0 where
 -- the job lies on a cycle
 abbrev pub IsOnCycle : Project → ℕ → Type 0
 IsOnCycle P j = Leads P j j
-
--- a chain leads from i to j whose jobs between are at most k (Warshall 1962)
-abbrev pub leads_via : Project → ℕ → ℕ → ℕ → Bool
-leads_via P zero i j = is_before P i j
-leads_via P (suc k) i j = leads_via P k i j || (leads_via P k i (suc k) && leads_via P k (suc k) j)
-
--- for each job the set of the jobs that chains through jobs up to k lead to
-pub record AreVia (P : Project) (k : ℕ) (rows : List JobSet) : Type 0 where
-  pub size : length rows ≡ job_count P
-  pub sets : (i j : ℕ) → IsJob P i → 1 ≤ j → member (row rows i) j ≡ leads_via P k i j
 
 -- for each job the set of the jobs that chains lead to
 pub record AreDescendants (P : Project) (rows : List JobSet) : Type 0 where

@@ -1,6 +1,10 @@
+ghost use Rattle.std.specs.Prelude.{◌≤◌, ◌↔◌, IsTrue, All};
+ghost use Rattle.rcpsp_model.specs.Project.{IsJob, IsMode};
+
 use crate::{BuildRefusal, Draft, DraftJob, Mode, Placing, Project, Schedule};
-use sched_base::{JobSet, List};
+use sched_base::List;
 use std::alloc::{AllocError, Global};
+use std::process::Abort;
 use std::test::Fail;
 
 /// What is common to the jobs of a draft, and its resources.
@@ -145,118 +149,196 @@ fn counts_jobs_and_modes(rt: HostRuntime) -> Result<(), Fail> {
     Ok(())
 }
 
-/// What a project says of a job: its modes, least duration, tail, rank, predecessors and successors.
-type Row = (u8, u32, u32, u8, u128, u128);
+/// The project of such a draft.
+fn project(alloc: Global, jobs: &[(&[u32], &[u8])], frame: &Frame) -> Result<Project, Fail> {
+    let draft = draft(alloc, jobs, frame)?;
+    let project = Project::build(alloc, draft)?;
+    Ok(project)
+}
+
+const SMALL: Frame<'static> = Frame {
+    requests: &[1, 0],
+    needs: &[3],
+    capacities: &[2, 7],
+    budgets: &[4],
+};
+
+/// What a project says of a job.
+#[derive(Clone, Copy)]
+struct Row {
+    modes: u8,
+    least_duration: u32,
+    tail: u32,
+    rank: u8,
+    preds: u128,
+    succs: u128,
+}
+
+fn facts(modes: u8, least_duration: u32, tail: u32, rank: u8, preds: u128, succs: u128) -> Row {
+    Row {
+        modes,
+        least_duration,
+        tail,
+        rank,
+        preds,
+        succs,
+    }
+}
+
+fn compare_job(rt: &impl Abort, project: &Project, job: u8, row: Row)
+    requires { IsJob project.now job }
+{
+    assert_eq!(rt; project.modes(job), row.modes, "job {job}");
+    assert_eq!(rt;
+        project.least_duration(job),
+        row.least_duration,
+        "job {job}"
+    );
+    assert_eq!(rt; project.tail(job), row.tail, "job {job}");
+    assert_eq!(rt; project.rank(job), row.rank, "job {job}");
+    assert_eq!(rt; project.preds(job).0, row.preds, "job {job}");
+    assert_eq!(rt; project.succs(job).0, row.succs, "job {job}");
+}
+
+fn compare(rt: &impl Abort, project: &Project, rows: &[Row]) {
+    assert_eq!(rt; project.jobs() as usize, rows.len());
+    for place in 0..rows.len() {
+        compare_job(rt, project, place as u8 + 1, rows[place]);
+    }
+}
 
 #[test]
-fn tells_facts(rt: HostRuntime) -> Result<(), Fail> {
-    let frame = Frame {
-        requests: &[1, 0],
-        needs: &[3],
-        capacities: &[2, 7],
-        budgets: &[4],
-    };
-    let diamond: [(&[u32], &[u8]); 4] = [
+fn tells_facts_of_a_diamond(rt: HostRuntime) -> Result<(), Fail> {
+    let jobs: [(&[u32], &[u8]); 4] = [
         (&[0], &[3, 2, 3]),
         (&[2, 4], &[4]),
         (&[5, 2], &[4]),
         (&[0], NONE),
     ];
-    let crossed: [(&[u32], &[u8]); 5] = [
+    let rows = [
+        facts(1, 0, 2, 1, 0b0000, 0b0110),
+        facts(2, 2, 2, 2, 0b0001, 0b1000),
+        facts(2, 2, 2, 3, 0b0001, 0b1000),
+        facts(1, 0, 0, 4, 0b0110, 0b0000),
+    ];
+    let project = project(rt.alloc(), &jobs, &SMALL)?;
+    compare(&rt, &project, &rows);
+    Ok(())
+}
+
+#[test]
+fn tells_facts_of_a_chain_back(rt: HostRuntime) -> Result<(), Fail> {
+    let jobs: [(&[u32], &[u8]); 5] = [
         (&[0], &[4]),
         (&[0], &[1]),
         (&[0], &[2]),
         (&[3], NONE),
         (&[2], NONE),
     ];
-    let diamond_rows: [Row; 4] = [
-        (1, 0, 2, 1, 0b0000, 0b0110),
-        (2, 2, 2, 2, 0b0001, 0b1000),
-        (2, 2, 2, 3, 0b0001, 0b1000),
-        (1, 0, 0, 4, 0b0110, 0b0000),
+    let rows = [
+        facts(1, 0, 3, 3, 0b00010, 0b01000),
+        facts(1, 0, 3, 2, 0b00100, 0b00001),
+        facts(1, 0, 3, 1, 0b00000, 0b00010),
+        facts(1, 3, 3, 4, 0b00001, 0b00000),
+        facts(1, 2, 2, 5, 0b00000, 0b00000),
     ];
-    let crossed_rows: [Row; 5] = [
-        (1, 0, 3, 3, 0b00010, 0b01000),
-        (1, 0, 3, 2, 0b00100, 0b00001),
-        (1, 0, 3, 1, 0b00000, 0b00010),
-        (1, 3, 3, 4, 0b00001, 0b00000),
-        (1, 2, 2, 5, 0b00000, 0b00000),
-    ];
-    let first = draft(rt.alloc(), &diamond, &frame)?;
-    let first = Project::build(rt.alloc(), first)?;
-    let second = draft(rt.alloc(), &crossed, &frame)?;
-    let second = Project::build(rt.alloc(), second)?;
-    assert_eq!(rt; second.in_order(), [3, 2, 1, 4, 5].as_slice());
-    let cases = [
-        (&first, diamond_rows.as_slice()),
-        (&second, crossed_rows.as_slice()),
-    ];
-    for (project, rows) in cases {
-        assert_eq!(rt; project.jobs() as usize, rows.len());
-        for (place, row) in rows.iter().enumerate() {
-            let job = place as u8 + 1;
-            let told: Row = (
-                project.modes(job),
-                project.least_duration(job),
-                project.tail(job),
-                project.rank(job),
-                project.preds(job).0,
-                project.succs(job).0,
-            );
-            assert_eq!(rt; told, *row, "job {job}");
-        }
+    let project = project(rt.alloc(), &jobs, &SMALL)?;
+    compare(&rt, &project, &rows);
+    assert_eq!(rt; project.in_order(), [3, 2, 1, 4, 5].as_slice());
+    Ok(())
+}
+
+/// Appends the duration, the requests and the needs of a mode.
+fn append_mode(
+    numbers: &mut Vec<u32>,
+    project: &Project,
+    job: u8,
+    mode: u8,
+) -> Result<(), AllocError>
+    requires job { IsJob project.now job }
+    requires mode { IsMode project.now job mode }
+{
+    numbers.push(project.duration(job, mode))?;
+    for resource in 1..project.renewables() + 1 {
+        numbers.push(project.request(job, mode, resource))?;
+    }
+    for resource in 1..project.nonrenewables() + 1 {
+        numbers.push(project.need(job, mode, resource))?;
     }
     Ok(())
 }
 
-#[test]
-fn tells_modes_and_ends(rt: HostRuntime) -> Result<(), Fail> {
-    let frame = Frame {
-        requests: &[1, 0],
-        needs: &[3],
-        capacities: &[2, 7],
-        budgets: &[4],
-    };
-    let jobs: [(&[u32], &[u8]); 3] = [(&[2, 4], &[3]), (&[5], NONE), (&[0, 1], NONE)];
-    let draft = draft(rt.alloc(), &jobs, &frame)?;
-    let project = Project::build(rt.alloc(), draft)?;
-    let mut durations = Vec::new(rt.alloc());
+/// The numbers of all modes, and then the capacities and budgets.
+fn all_numbers(alloc: Global, project: &Project) -> Result<Vec<u32>, AllocError> {
+    let mut numbers = Vec::new(alloc);
     for job in 1..project.jobs() + 1 {
         for mode in 1..project.modes(job) + 1 {
-            durations.push(project.duration(job, mode))?;
-            for resource in 1..project.renewables() + 1 {
-                durations.push(project.request(job, mode, resource))?;
-            }
-            for resource in 1..project.nonrenewables() + 1 {
-                durations.push(project.need(job, mode, resource))?;
-            }
+            append_mode(&mut numbers, project, job, mode)?;
         }
     }
-    let want = [2, 1, 0, 3, 4, 1, 0, 3, 5, 1, 0, 3, 0, 1, 0, 3, 1, 1, 0, 3];
-    assert_eq!(rt; durations.as_slice(), want.as_slice());
-    let mut amounts = Vec::new(rt.alloc());
     for resource in 1..project.renewables() + 1 {
-        amounts.push(project.capacity(resource))?;
+        numbers.push(project.capacity(resource))?;
     }
     for resource in 1..project.nonrenewables() + 1 {
-        amounts.push(project.budget(resource))?;
+        numbers.push(project.budget(resource))?;
     }
-    assert_eq!(rt; amounts.as_slice(), [2, 7, 4].as_slice());
+    Ok(numbers)
+}
+
+fn are_early(places: &[Placing]) -> bool
+    ensures { IsTrue result ↔ All (λ p. p.start ≤ 999999999) places.now }
+{
+    places.iter().all(|place| place.start <= 999_999_999)
+}
+
+/// The end of a schedule with these modes and starts.
+fn end_of(
+    rt: &impl Abort,
+    alloc: Global,
+    project: &Project,
+    places: &[Placing],
+) -> Result<u32, AllocError> {
+    let placings = places.to_vec(alloc)?;
+    let schedule = Schedule::new(List::from_vec(placings));
+    assert!(rt; are_early(places));
+    assert_eq!(rt; schedule.len(), project.jobs() as usize);
+    assert!(rt; project.has_modes_of(&schedule));
+    assert_eq!(rt; schedule.place(1), places[0]);
+    Ok(project.end(&schedule))
+}
+
+fn at(mode: u8, start: u32) -> Placing {
+    Placing { mode, start }
+}
+
+fn three_jobs(alloc: Global) -> Result<Project, Fail> {
+    let jobs: [(&[u32], &[u8]); 3] = [(&[2, 4], &[3]), (&[5], NONE), (&[0, 1], NONE)];
+    project(alloc, &jobs, &SMALL)
+}
+
+const NUMBERS: &[u32] = &[
+    2, 1, 0, 3, 4, 1, 0, 3, 5, 1, 0, 3, 0, 1, 0, 3, 1, 1, 0, 3, 2, 7, 4,
+];
+
+#[test]
+fn tells_modes(rt: HostRuntime) -> Result<(), Fail> {
+    let project = three_jobs(rt.alloc())?;
+    let numbers = all_numbers(rt.alloc(), &project)?;
+    assert_eq!(rt; numbers.as_slice(), NUMBERS);
+    Ok(())
+}
+
+#[test]
+fn tells_ends(rt: HostRuntime) -> Result<(), Fail> {
+    let project = three_jobs(rt.alloc())?;
     let cases = [
-        ([(2, 0), (1, 1), (1, 4)], 6),
-        ([(1, 0), (1, 0), (2, 7)], 8),
-        ([(2, 9), (1, 0), (1, 13)], 13),
+        ([at(2, 0), at(1, 1), at(1, 4)], 6),
+        ([at(1, 0), at(1, 0), at(2, 7)], 8),
+        ([at(2, 9), at(1, 0), at(1, 13)], 13),
     ];
     for (places, want) in cases {
-        let mut placings = Vec::new(rt.alloc());
-        for (mode, start) in places {
-            placings.push(Placing { mode, start })?;
-        }
-        let schedule = Schedule::new(List::from_vec(placings));
-        assert_eq!(rt; schedule.len(), project.jobs() as usize);
-        assert!(rt; project.has_modes_of(&schedule));
-        assert_eq!(rt; schedule.place(1).start, places[0].1);
-        assert_eq!(rt; project.end(&schedule), want);
+        let end = end_of(&rt, rt.alloc(), &project, &places)?;
+        assert_eq!(rt; end, want);
     }
     Ok(())
 }

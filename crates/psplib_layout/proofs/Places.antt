@@ -4,6 +4,7 @@ use Rattle.std.proofs.Math.Seq.{drop-cons}
 use Rattle.std.proofs.lemmas.List.{drop_all}
 use Rattle.psplib_lex.specs.Line.{Line, line_at, word_at, no_line}
 use Rattle.psplib_layout.specs.declared.fault.Fault.TheVariants.{TextEnds, WordsLeft}
+use Rattle.psplib_layout.specs.Title.{any_line}
 use Rattle.psplib_layout.specs.Place.{past}
 use Rattle.psplib_layout.specs.Reading.{next_word, line_end}
 
@@ -37,3 +38,6 @@ next_none end lines line word h = rw (drop_all line lines h) refl
 pub left_some : (lines : List Line) (line word : ℕ) → line < length lines → word < length (line_at lines line).words
     → line_end (past word (drop line lines)) ≡ Err (record { fault = WordsLeft; line = (line_at lines line).number })
 left_some lines line word h k = rw (lines_from lines line h, words_from (line_at lines line).words word k) refl
+
+pub any_line_here : (end : ℕ) (lines : List Line) (line word : ℕ) → line < length lines → any_line end (past word (drop line lines)) ≡ Ok (past 0 (drop (line + 1) lines))
+any_line_here end lines line word h = rw (lines_from lines line h, past-zero) refl

@@ -1,4 +1,13 @@
 pub mod Rule
 pub mod Wanted
 pub mod Reading
+pub mod Title
+pub mod Part
+pub mod Header
+pub mod Precedence
+pub mod Requests
+pub mod Availabilities
+pub mod Layout
+pub mod Text
+pub mod FirstFault
 pub mod Place

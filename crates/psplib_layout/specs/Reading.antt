@@ -1,6 +1,6 @@
 -- Reading from left to right, up to the first fault. What is left to read is a list of lines; of the first line some
 -- words may be taken already.
-use Rattle.std.specs.Prelude.{◌≡◌, ℕ, List, [], ◌∷◌, drop, Option, Some, None, Result, Ok, Err, nat_lt, if◌then◌else◌}
+use Rattle.std.specs.Prelude.{ℕ, List, [], ◌∷◌, Option, Some, None, Result, Ok, Err, nat_lt, if◌then◌else◌}
 use Rattle.psplib_lex.specs.Line.{Line}
 use Rattle.psplib_lex.specs.Number.{number_of}
 use Rattle.psplib_layout.specs.declared.fault.Fault.{Fault}
@@ -15,6 +15,7 @@ abbrev pub ◌>>=◌ : {A B : Type 0} → Result A Refusal → (A → Result B R
 (Ok x) >>= more = more x
 (Err f) >>= more = Err f
 
+-- the refusal with this fault on this line
 abbrev pub refusal : {A : Type 0} → Fault → ℕ → Result A Refusal
 refusal fault line = Err (record { fault = fault; line = line })
 
@@ -50,6 +51,7 @@ abbrev pub read_wanted : {A : Type 0} → ℕ → Wanted A → List Line → Res
 read_wanted end (give x) lines = Ok (x, lines)
 read_wanted end (number rule next) lines = number_in end rule lines >>= λ x. read_wanted end (next x.0) x.1
 
+-- the lines behind one that has no word left
 abbrev pub no_word : ℕ → List (List ℕ) → List Line → Result (List Line) Refusal
 no_word line [] more = Ok more
 no_word line (word ∷ words) more = refusal WordsLeft line

@@ -14,6 +14,7 @@ abbrev pub ◌>>=◌ : {A B : Type 0} → Wanted A → (A → Wanted B) → Want
 (give x) >>= more = more x
 (number rule next) >>= more = number rule (λ n. next n >>= more)
 
+-- one number under a rule
 abbrev pub one : Rule → Wanted ℕ
 one rule = number rule give
 

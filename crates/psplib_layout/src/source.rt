@@ -1,13 +1,15 @@
 ghost use Rattle.std.specs.Prelude.{◌<◌, Ok};
 ghost use Rattle.psplib_lex.specs.Number.{number_of};
 ghost use Rattle.psplib_layout.specs.Place.{Gives, rest_at};
-ghost use Rattle.psplib_layout.specs.Reading.{next_word, judged, number_in, line_end};
+ghost use Rattle.psplib_layout.specs.Reading.{next_word, judged, number_in, read_wanted, line_end};
+ghost use Rattle.psplib_layout.specs.Wanted.{times};
 
 use crate::fault::{Fault, ReadError, refused};
 use crate::numbers::{CAP, number};
 use crate::place::Place;
 use crate::rule::Rule;
 use psplib_lex::Words;
+use std::alloc::Global;
 
 /// A text that is read: its kept lines, and the number of the line on which it ends.
 #[derive(Drop)]
@@ -73,6 +75,29 @@ impl Source<'_> {
         let (line, word, behind) = self.word_from(at)?;
         let n = judge(rule, line, word)?;
         Ok((n, behind))
+    }
+
+    /// So many numbers under one rule, from a place on, and the place behind them.
+    pub fn numbers_at(
+        &self,
+        alloc: Global,
+        at: Place,
+        count: u32,
+        rule: Rule,
+    ) -> Result<(Vec<u32>, Place), ReadError>
+        requires least { rule.least < CAP }
+        requires most { rule.most < CAP }
+        ensures { Gives (λ x. (x.0.items, rest_at self.now.words x.1)) result
+            (read_wanted self.now.end (times count rule) (rest_at self.now.words at)) }
+    {
+        let mut numbers = Vec::with_capacity(alloc, count as usize)?;
+        let mut at = at;
+        for _ in 0..count {
+            let (n, behind) = self.number_at(at, rule)?;
+            numbers.push(n)?;
+            at = behind;
+        }
+        Ok((numbers, at))
     }
 
     /// The place behind a line all of whose words are taken.

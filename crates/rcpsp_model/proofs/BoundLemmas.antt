@@ -1,3 +1,4 @@
+-- No schedule that completes a front ends before its tail bound or its lower bound, and none completes one with a gap.
 use Rattle.std.proofs.Common.{◌≡◌, ℕ, ◌+◌, ◌-◌, ◌≤◌, arith, sym, ap, subst, List, [], ◌∷◌, get_or, false}
 use Rattle.std.specs.Prelude.{filter}
 use Rattle.std.proofs.lemmas.List.Elements.{All-head, Contains-get_or}
@@ -6,15 +7,16 @@ use Rattle.rcpsp_model.specs.declared.parts.Placing.{Placing}
 use Rattle.rcpsp_model.specs.declared.parts.Mode.{Mode}
 use Rattle.rcpsp_model.specs.Project.{Project, modes_of, mode_of, no_mode, duration, Before, is_before, IsAcyclic, IsMode}
 use Rattle.rcpsp_model.specs.Schedule.{finish, end_of, entries, IsFeasible}
-use Rattle.rcpsp_model.specs.Chain.{least_duration, IsChain}
+use Rattle.rcpsp_model.specs.Chain.{IsGreatest, least_duration, IsChain}
 use Rattle.rcpsp_model.specs.Tree.{has_job, last_start, Completes}
-use Rattle.rcpsp_model.specs.Bounds.{LowerValue, tail, work, ready, TailValue, front, chain}
+use Rattle.rcpsp_model.specs.Bounds.{IsTailBound, IsWorkBound, IsLowerBound, HoldsWork, LowerValue, tail, work, ready, TailValue, front, chain}
 use Rattle.rcpsp_model.specs.Laws.{TailLaw, JobTailLaw, GapLaw, LowerLaw}
 use Rattle.rcpsp_model.proofs.Lists.{In, In-filter, In-from_Contains, In-All, total, sum_by-total}
 use Rattle.rcpsp_model.proofs.Entries.{entry_at}
 use Rattle.rcpsp_model.proofs.ModeLemmas.{least_over-le}
+use Rattle.rcpsp_model.proofs.Numbers.{least-one}
 use Rattle.rcpsp_model.proofs.Usage.{finish-le-end, end-le}
-use Rattle.rcpsp_model.proofs.ExchangeLemmas.{kept-In, precedes, completed-budgets, front-distinct}
+use Rattle.rcpsp_model.proofs.CompletesLemmas.{kept-In, precedes, completed-budgets, front-distinct}
 use Rattle.rcpsp_model.proofs.WorkLemmas.{work_law}
 
 pub least_duration-le : (P : Project) (j m : ℕ) → IsMode P j m → least_duration P j ≤ duration P j m
@@ -83,3 +85,16 @@ lower_law P F s b a f c is = by_value b is.attained
     by_value : (v : ℕ) → LowerValue P F v → v ≤ end_of P (entries s)
     by_value _ (tail v bound) = tail_law P F s v a c bound
     by_value _ (work k v bound) = work_law P F s k v f c bound
+
+-- A greatest number is one, and so is each bound.
+pub greatest-one : (Q : ℕ → Type 0) (a b : ℕ) → IsGreatest Q a → IsGreatest Q b → a ≡ b
+greatest-one Q a b p q = let up = p.greatest b q.attained in let down = q.greatest a p.attained in omega arith
+
+pub tail_bound-one : (P : Project) (F : List Entry) (t u : ℕ) → IsTailBound P F t → IsTailBound P F u → t ≡ u
+tail_bound-one P F t u p q = greatest-one (TailValue P F) t u p q
+
+pub work_bound-one : (P : Project) (F : List Entry) (k v w : ℕ) → IsWorkBound P F k v → IsWorkBound P F k w → v ≡ w
+work_bound-one P F k v w p q = let same = least-one (HoldsWork P F k) p.enough q.enough p.least q.least in let one = p.bound in let two = q.bound in omega arith
+
+pub lower_bound-one : (P : Project) (F : List Entry) (b c : ℕ) → IsLowerBound P F b → IsLowerBound P F c → b ≡ c
+lower_bound-one P F b c p q = greatest-one (LowerValue P F) b c p q

@@ -1,7 +1,7 @@
 -- The children of a front: each eligible job and mode has one, and their list is one.
-use Rattle.std.proofs.Common.{◌≡◌, ℕ, zero, suc, ◌+◌, ◌<◌, ◌≤◌, max, ◌⊎◌, inl, inr, arith, refl, sym, ap, subst, ◌∙◌, List, [], ◌∷◌, ◌++◌, length, Bool, true, false, cond, eqb, ◌||◌, not, get_or}
-use Rattle.std.specs.Prelude.{All, Contains, sum_by}
-use Rattle.std.proofs.lemmas.Bool.{both_ways, cases_eq, cases_lt, cases_Bool, and_parts}
+use Rattle.std.proofs.Common.{◌≡◌, ℕ, zero, suc, ◌+◌, ◌≤◌, max, inl, inr, arith, refl, sym, ap, subst, ◌∙◌, List, [], ◌∷◌, ◌++◌, length, Bool, true, cond, eqb, ◌||◌, not}
+use Rattle.std.specs.Prelude.{Contains}
+use Rattle.std.proofs.lemmas.Bool.{cases_eq, cases_lt}
 use Rattle.std.proofs.lemmas.List.Sums.{sum_by_push}
 use Rattle.std.proofs.lemmas.List.Elements.{Contains-push, Contains-append_left, Contains-append_right}
 use Rattle.rcpsp_model.specs.declared.parts.Child.{Child}
@@ -9,18 +9,18 @@ use Rattle.rcpsp_model.specs.declared.parts.Child.TheVariants.{Placed, Shut}
 use Rattle.rcpsp_model.specs.declared.parts.Entry.{Entry}
 use Rattle.rcpsp_model.specs.declared.parts.Shut.{Shut as Why}
 use Rattle.rcpsp_model.specs.declared.parts.Shut.TheVariants.{NoCapacity, NoBudget, Inefficient}
-use Rattle.rcpsp_model.specs.Project.{Project, job_count, jobs, modes_of, need, request, capacity, budget, duration, is_before, Before, IsJob, IsMode, IsRenewable, IsNonrenewable}
+use Rattle.rcpsp_model.specs.Project.{Project, job_count, jobs, modes_of, need, request, capacity, budget, duration, is_before, Before, IsMode}
 use Rattle.rcpsp_model.specs.Schedule.{finish, used, end_of, calm}
-use Rattle.rcpsp_model.specs.Chain.{IsLeast}
 use Rattle.rcpsp_model.specs.Modes.{least_need, LacksCapacity, IsExecutable, IsInefficientBy, IsEfficient}
-use Rattle.rcpsp_model.specs.Tree.{has_job, last_start, CanStart, IsEligible, Follows, IsFront, rest_need, HasGap, LeavesBudgets, entry_at, extended, IsShut, IsPlacedChild, IsChild, ByMode, ByJob, ByJobs, AreChildren}
-use Rattle.rcpsp_model.specs.Laws.{ListsChildren, ChildrenLaw, OneList, OneListLaw}
-use Rattle.rcpsp_model.proofs.Lists.{In, In-push, In-append, In-from_Contains, All-from_In, total, total-same, sum_by-filter}
-use Rattle.rcpsp_model.proofs.Numbers.{Decided, le_decided, lt_decided, below_decided, least_below, least_of}
-use Rattle.rcpsp_model.proofs.Usage.{finish-le-end, can_start_decided, both_decided, implies_decided}
+use Rattle.rcpsp_model.specs.Tree.{has_job, CanStart, IsEligible, IsFront, rest_need, HasGap, LeavesBudgets, entry_at, extended, IsShut, IsPlacedChild, IsChild, ByMode, ByJob, ByJobs}
+use Rattle.rcpsp_model.specs.Laws.{ChildrenLaw, OneListLaw, ListExchangeLaw}
+use Rattle.rcpsp_model.proofs.Lists.{In, In-push, In-append, In-from_Contains, All-from_In, total-same, sum_by-filter}
+use Rattle.rcpsp_model.proofs.Numbers.{least-one, Decided, le_decided, lt_decided, below_decided, least_below, least_of, both_decided, implies_decided, true_decided, false_decided}
+use Rattle.rcpsp_model.proofs.Usage.{finish-le-end, can_start_decided}
 use Rattle.rcpsp_model.proofs.ModeLemmas.{inefficient_decided, renewable_decided, nonrenewable_decided}
 use Rattle.rcpsp_model.proofs.Successors.{before-job}
 use Rattle.rcpsp_model.proofs.FrontLemmas.{fits-past_end, last-le-end}
+use Rattle.rcpsp_model.proofs.ExchangeLemmas.{exchange_law}
 use Rattle.rcpsp_model.proofs.TreeLemmas.{front-push}
 
 -- The needs of an entry don't speak of its start.
@@ -119,9 +119,11 @@ children_law P F cs f are = record {
       subst (Contains cs) (child-placed P F e r.0 p r.2) r.1;
 }
 
--- A least number is one.
-pub least-one : (Q : ℕ → Type 0) (a b : ℕ) → IsLeast Q a → IsLeast Q b → a ≡ b
-least-one Q a b p q = let up = p.least b q.attained in let down = q.least a p.attained in omega arith
+pub list_exchange_law : ListExchangeLaw
+list_exchange_law P F cs a f are not_leaf s c =
+    let x = exchange_law P F s a f not_leaf c in
+    let listed = children_law P F cs f are in
+    record { child = F ++ x.entry ∷ []; placed = listed.whole x.entry x.child; better = x.better; completes = x.completes; no_later = x.no_later }
 
 executable-capacity : (P : Project) (j m k : ℕ) → IsExecutable P j m → LacksCapacity P j m k → ⊥
 executable-capacity P j m k can lack = let enough = can lack.takes_time k lack.renewable in let lacks = lack.lacks in omega arith
@@ -153,7 +155,7 @@ gap_decided P F l = elim (both_decided (nonrenewable_decided P l) (lt_decided (b
   | inr no_ ↦ inr (λ g. no_ (g.nonrenewable, g.exceeds))
 ]
 
-lack_decided : (P : Project) (j m k : ℕ) → Decided (LacksCapacity P j m k)
+pub lack_decided : (P : Project) (j m k : ℕ) → Decided (LacksCapacity P j m k)
 lack_decided P j m k = elim (both_decided (renewable_decided P k) (both_decided (lt_decided 0 (duration P j m)) (lt_decided (capacity P k) (request P j m k)))) [
   | inl h ↦ inl (record { renewable = h.0; takes_time = h.1.0; lacks = h.1.1 })
   | inr no_ ↦ inr (λ l. no_ (l.renewable, (l.takes_time, l.lacks)))
@@ -175,13 +177,19 @@ placed-child : (P : Project) (F : List Entry) (j m : ℕ) → IsEligible P F j �
 placed-child P F j m el mode can leaves efficient =
     let first = least_of (CanStart P F j m) (can_start_decided P F j m) (max (end_of P F) (calm P)) (can_start-past_end P F j m can) in
     let t = first.0 in
-    let budgets = leaves-start P F j m t leaves in
-    (Placed (F ++ entry_at j m t ∷ []), (t, refl, record {
-      follows = record { eligible = el; mode = mode; start = first.1; budgets = λ l r. let ok = budgets l r in omega arith };
-      executable = can;
-      budgets = budgets;
-      efficient = efficient;
-    }))
+    let budgets = leaves-start P F j m t leaves in (
+      Placed (F ++ entry_at j m t ∷ []),
+      (
+        t,
+        refl,
+        record {
+          follows = record { eligible = el; mode = mode; start = first.1; budgets = λ l r. let ok = budgets l r in omega arith };
+          executable = can;
+          budgets = budgets;
+          efficient = efficient;
+        },
+      ),
+    )
 
 -- An eligible job in one of its modes has a child.
 some_child : (P : Project) (F : List Entry) (j m : ℕ) → IsEligible P F j → IsMode P j m → (c : Child (List Entry)) × IsChild P F j m c
@@ -222,18 +230,12 @@ by_mode-one P F j (suc n) cs ds p q =
     let last = child-one P F j (suc n) p.1 q.1 p.4 q.4 in
     p.2 ∙ ap (λ (xs : List (Child (List Entry))). xs ++ p.1 ∷ []) before ∙ ap (λ (c : Child (List Entry)). q.0 ++ c ∷ []) last ∙ sym q.2
 
-eligible_decided : (P : Project) (F : List Entry) (j : ℕ) → Decided (IsEligible P F j)
+pub eligible_decided : (P : Project) (F : List Entry) (j : ℕ) → Decided (IsEligible P F j)
 eligible_decided P F j =
-    elim (both_decided (both_decided (le_decided 1 j) (le_decided j (job_count P))) (both_decided (bool_false (has_job F j)) (below_decided (λ i. Before P i j → has_job F i ≡ true) (λ i. implies_decided (bool_true (is_before P i j)) (bool_true (has_job F i))) (job_count P + 1)))) [
+    elim (both_decided (both_decided (le_decided 1 j) (le_decided j (job_count P))) (both_decided (false_decided (has_job F j)) (below_decided (λ i. Before P i j → has_job F i ≡ true) (λ i. implies_decided (true_decided (is_before P i j)) (true_decided (has_job F i))) (job_count P + 1)))) [
       | inl h ↦ inl (record { job = h.0; unplaced = h.1.0; preds = λ i b. h.1.1 i (let r = before-job P i j b in let high = r.1 in omega arith) b })
       | inr no_ ↦ inr (λ e. no_ (e.job, (e.unplaced, λ i _. e.preds i)))
     ]
-  where
-    bool_true : (b : Bool) → Decided (b ≡ true)
-    bool_true b = elim (cases_Bool b) [ inl y ↦ inl y | inr n ↦ inr (λ y. both_ways b n y) ]
-
-    bool_false : (b : Bool) → Decided (b ≡ false)
-    bool_false b = elim (cases_Bool b) [ inl y ↦ inr (λ n. both_ways b n y) | inr n ↦ inl n ]
 
 some_by_job : (P : Project) (F : List Entry) (j : ℕ) → (cs : List (Child (List Entry))) × ByJob P F j cs
 some_by_job P F j = elim (eligible_decided P F j) [

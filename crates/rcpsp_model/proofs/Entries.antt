@@ -1,3 +1,4 @@
+-- Entries of distinct jobs: a whole is a front and the entries of the other jobs.
 use Rattle.std.proofs.Common.{◌≡◌, ℕ, suc, ◌+◌, ◌<◌, ◌≤◌, inl, inr, arith, refl, sym, ap, subst, ◌∙◌, List, [], ◌∷◌, ◌++◌, Bool, true, false, cond, eqb, ◌||◌, length}
 use Rattle.std.proofs.lemmas.Bool.{eqb-true, eq-eqb, ne_eqb, both_ways, cases_Bool, cases_eq, or_cases, or_parts, or_from, eqb-false, or_left, or_right}
 use Rattle.rcpsp_model.specs.declared.parts.Entry.{Entry}

@@ -1,29 +1,24 @@
 -- The small projects, mostly by computing.
-use Rattle.std.proofs.Common.{◌≡◌, ℕ, zero, suc, ◌+◌, ◌-◌, ◌<◌, ◌≤◌, max, ◌⊎◌, inl, inr, arith, refl, sym, ap, subst, ◌∙◌, List, [], ◌∷◌, ◌++◌, length, Bool, true, false, eqb, leb, ◌&&◌, ◌||◌, not}
-use Rattle.std.specs.Prelude.{All, sum_by, slice_index}
-use Rattle.std.proofs.lemmas.Bool.{and_parts, leb-true, eqb-true, or_cases, both_ways, false≢true, cases_lt}
-use Rattle.std.proofs.lemmas.List.Elements.{All-head}
+use Rattle.std.proofs.Common.{◌≡◌, ℕ, suc, ◌+◌, ◌-◌, ◌<◌, ◌≤◌, inl, inr, arith, refl, ap, subst, List, [], ◌∷◌, ◌++◌, length, Bool, true, false, eqb, leb, ◌||◌}
+use Rattle.std.specs.Prelude.{slice_index}
+use Rattle.std.proofs.lemmas.Bool.{leb-true, both_ways, cases_lt}
 use Rattle.rcpsp_model.specs.declared.parts.Child.{Child}
 use Rattle.rcpsp_model.specs.declared.parts.Child.TheVariants.{Placed}
 use Rattle.rcpsp_model.specs.declared.parts.Entry.{Entry}
-use Rattle.rcpsp_model.specs.declared.parts.Placing.{Placing}
-use Rattle.rcpsp_model.specs.Project.{Project, job_count, modes_of, mode_of, successors_of, duration, request, need, capacity, budget, is_before, nonrenewables, renewables, Before, IsJob, IsMode, IsNonrenewable, IsAcyclic, IsProject}
-use Rattle.rcpsp_model.specs.Schedule.{finish, usage, used, end_of, entries, cap, calm, IsFeasible, KeepsBudgets}
-use Rattle.rcpsp_model.specs.Chain.{least_duration, IsChain, IsGreatest, IsLeast}
-use Rattle.rcpsp_model.specs.Modes.{least_work, TakesLess, time, renewable, nonrenewable, IsInefficientBy, IsEfficient, IsExecutable}
-use Rattle.rcpsp_model.specs.Tree.{has_job, last_start, CanStart, IsEligible, Follows, InTurn, IsFront, LeavesBudgets, entry_at, IsPlacedChild, ByJobs}
-use Rattle.rcpsp_model.specs.Bounds.{ready, TailValue, front, chain, IsTailBound}
+use Rattle.rcpsp_model.specs.Project.{Project, job_count, modes_of, mode_of, successors_of, duration, request, need, capacity, budget, is_before, Before, IsProject}
+use Rattle.rcpsp_model.specs.Schedule.{finish, usage, used, cap, calm}
+use Rattle.rcpsp_model.specs.Chain.{least_duration}
+use Rattle.rcpsp_model.specs.Modes.{least_work, TakesLess, time, renewable, nonrenewable, IsEfficient}
+use Rattle.rcpsp_model.specs.Tree.{has_job, CanStart, entry_at, IsPlacedChild, ByJobs}
 use Rattle.rcpsp_model.specs.Dominance.{Dominates}
-use Rattle.rcpsp_model.specs.Rank.{is_among, HasPredecessors, IsLowestFree}
 use Rattle.rcpsp_model.specs.Examples.{at, two_in_turn, TwoInTurn, zero_lengths, before_fifth, ZeroLengths, short_or_cheap, ShortOrCheap, needs_differ, used_3, used_1, used_1_too, NeedsDiffer}
-use Rattle.rcpsp_model.proofs.Lists.{In, total, sum_by-total, In-from_Contains, All-from_In}
+use Rattle.rcpsp_model.proofs.Lists.{In, In-from_Contains}
 use Rattle.rcpsp_model.proofs.Entries.{same_entry}
-use Rattle.rcpsp_model.proofs.Successors.{any-In, before-any, before-job}
-use Rattle.rcpsp_model.proofs.Usage.{load, usage-total}
-use Rattle.rcpsp_model.proofs.ExchangeLemmas.{precedes}
+use Rattle.rcpsp_model.proofs.Usage.{usage-total}
+use Rattle.rcpsp_model.proofs.CompletesLemmas.{precedes}
 use Rattle.rcpsp_model.proofs.WorkLemmas.{quotient_law}
-use Rattle.rcpsp_model.proofs.TreeTests.{front_test-true, tail_bound-from_tests, rank_test-true, not-true}
-use Rattle.rcpsp_model.proofs.Tests.{all_below, all_below-true, all_to, all_to-true, every, every-In, All-every, implies, implies-true, among, among-true, project-from_tests, feasible_test-true, preds_test, preds_test-true, fits_test, fits_test-true}
+use Rattle.rcpsp_model.proofs.TreeTests.{front_test-true, tail_bound-from_tests, rank_test-true}
+use Rattle.rcpsp_model.proofs.Tests.{all_below-true, all_to-true, All-every, project-from_tests, feasible_test-true, preds_test-true, fits_test-true}
 
 two_project : IsProject two_in_turn
 unfolding job_count successors_of

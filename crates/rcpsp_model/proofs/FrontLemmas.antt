@@ -1,3 +1,4 @@
+-- What a front keeps from entry to entry, and how far it reaches.
 use Rattle.std.proofs.Common.{◌≡◌, ℕ, ◌+◌, ◌*◌, ◌-◌, ◌≤◌, max, inl, inr, arith, refl, sym, ap, subst, List, [], ◌∷◌, ◌++◌, length, length-append, get_or, append_assoc, Bool, true, false, cond, eqb, ◌||◌, replicate}
 use Rattle.std.specs.Prelude.{fold, filter}
 use Rattle.std.proofs.lemmas.Bool.{cases_lt}
@@ -6,8 +7,7 @@ use Rattle.std.proofs.lemmas.List.Sums.{sum_by_push}
 use Rattle.std.proofs.lemmas.List.Elements.{All-get_or}
 use Rattle.rcpsp_model.specs.declared.parts.Entry.{Entry}
 use Rattle.rcpsp_model.specs.declared.parts.Placing.{Placing}
-use Rattle.rcpsp_model.specs.declared.parts.Mode.{Mode}
-use Rattle.rcpsp_model.specs.Project.{Project, duration, is_before, job_count, Before, IsJob, IsMode, Activity, IsWithinLimits, IsActivityWithinLimits, IsModeWithinLimits, mode_of, modes_of, no_mode, no_activity}
+use Rattle.rcpsp_model.specs.Project.{Project, duration, is_before, job_count, Before, IsJob, IsMode, IsWithinLimits, IsActivityWithinLimits, IsModeWithinLimits, mode_of, modes_of, no_mode, no_activity}
 use Rattle.rcpsp_model.specs.Schedule.{calm, finish, usage, end_of, entries_from, KeepsCapacities, IsOf, AreOf}
 use Rattle.rcpsp_model.specs.Chain.{IsLeast}
 use Rattle.rcpsp_model.specs.Modes.{IsExecutable}
@@ -16,7 +16,7 @@ use Rattle.rcpsp_model.specs.Bounds.{ready}
 use Rattle.rcpsp_model.proofs.Lists.{In, total, sum_by-total, In-All, All-from_In, total-le, total-zero, In-filter, filter-In}
 use Rattle.rcpsp_model.proofs.Entries.{DistinctJobs, part, part-more, entry_at, entries-distinct}
 use Rattle.rcpsp_model.proofs.Usage.{load, usage-total, load-active, load-before, load-after, finish-le-end, end-le, usage-past_end, whole_law, cap_law, calm_law}
-use Rattle.rcpsp_model.proofs.ExchangeLemmas.{front-distinct}
+use Rattle.rcpsp_model.proofs.CompletesLemmas.{front-distinct}
 
 -- A rule that keeps a fact from entry to entry keeps it to the end.
 pub in_turn : {X : Type 0} (R : List X → X → Type 0) (Q : List X → Type 0) → ((F : List X) (e : X) → Q F → R F e → Q (F ++ e ∷ [])) →

@@ -6,10 +6,11 @@ use Rattle.rcpsp_model.specs.Project.{Project, job_count, IsAcyclic}
 use Rattle.rcpsp_model.specs.Schedule.{end_of, entries}
 use Rattle.rcpsp_model.specs.Tree.{has_job, IsFront}
 use Rattle.rcpsp_model.specs.Log.{IsClosedAt, leaf, tail, work, lower, cutset, IsClosedLog, EndsLate}
-use Rattle.rcpsp_model.specs.Laws.{ClosedLogLaw, ClosedRootLaw}
+use Rattle.rcpsp_model.specs.Laws.{ClosedLogLaw, ClosedRootLaw, NoneLaw}
 use Rattle.rcpsp_model.proofs.Lists.{total-same}
 use Rattle.rcpsp_model.proofs.Usage.{finish-le-end, end-le}
-use Rattle.rcpsp_model.proofs.ExchangeLemmas.{kept-In, exchange_law, front-distinct}
+use Rattle.rcpsp_model.proofs.CompletesLemmas.{kept-In, front-distinct}
+use Rattle.rcpsp_model.proofs.ExchangeLemmas.{exchange_law}
 use Rattle.rcpsp_model.proofs.BoundLemmas.{tail_law, lower_law}
 use Rattle.rcpsp_model.proofs.WorkLemmas.{work_law}
 use Rattle.rcpsp_model.proofs.DominanceLemmas.{dominance_law}
@@ -68,3 +69,7 @@ closed_log_law P d expanded closed a log F l = closed-late P a d (Contains expan
 
 pub closed_root_law : ClosedRootLaw
 closed_root_law P d expanded closed a log root s f = closed_log_law P d expanded closed a log [] root s (((root_law P).1 s).1 f)
+
+pub none_law : NoneLaw
+none_law P expanded closed a log root s f =
+    let late = closed_root_law P (end_of P (entries s) + 1) expanded closed a (log (end_of P (entries s) + 1)) root s f in omega arith

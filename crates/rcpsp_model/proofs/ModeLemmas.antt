@@ -1,3 +1,4 @@
+-- The least over the modes of a job, and an efficient mode in place of any.
 use Rattle.std.proofs.Common.{mul-suc, ◌≡◌, ℕ, zero, suc, ◌+◌, ◌*◌, ◌-◌, ◌<◌, ◌≤◌, ◌⊎◌, inl, inr, arith, refl, sym, ap, List, [], ◌∷◌, length, get_or, Bool, true, false, cond, not}
 use Rattle.std.specs.Prelude.{sum_by, slice_index}
 use Rattle.std.proofs.lemmas.Bool.{cases_eq}
@@ -11,9 +12,8 @@ use Rattle.rcpsp_model.specs.Chain.{least_over}
 use Rattle.rcpsp_model.specs.Modes.{time, renewable, nonrenewable, least_need, TakesNoMore, TakesLess, IsInefficientBy, IsEfficient, least_work}
 use Rattle.rcpsp_model.specs.Tree.{has_job, unplaced}
 use Rattle.rcpsp_model.proofs.Lists.{In, In-from_Contains, total, total-le, total-same, sum_by-filter}
-use Rattle.rcpsp_model.proofs.Usage.{both_decided, implies_decided}
 use Rattle.std.proofs.Math.Nat.{mul-le-mul_left}
-use Rattle.rcpsp_model.proofs.Numbers.{least_below, Decided, le_decided, lt_decided, below_decided}
+use Rattle.rcpsp_model.proofs.Numbers.{least_below, Decided, le_decided, lt_decided, below_decided, both_decided, implies_decided, either_decided, some_decided}
 
 pub cond-mono : (b : Bool) {x y : ℕ} → x ≤ y → cond b 0 x ≤ cond b 0 y
 cond-mono true h = omega arith
@@ -57,13 +57,13 @@ sum_by-unplaced P F s g w =
     let d = total-same (λ (x : Entry). h x.job) (λ (x : Entry). cond (has_job F x.job) 0 (g x.job)) (entries s) (λ x i. cond-not (has_job F x.job) _) in
     omega arith
 
-total-lt : (f g : ℕ → ℕ) (xs : List ℕ) (x : ℕ) → ((y : ℕ) → In xs y → f y ≤ g y) → In xs x → f x < g x → total f xs < total g xs
+pub total-lt : (f g : ℕ → ℕ) (xs : List ℕ) (x : ℕ) → ((y : ℕ) → In xs y → f y ≤ g y) → In xs x → f x < g x → total f xs < total g xs
 total-lt f g [] x h i l = absurd i
 total-lt f g (y ∷ ys) x h (inl e) l =
     let rest = total-le f g ys (λ z j. h z (inr j)) in let a = ap f e in let b = ap g e in omega arith
 total-lt f g (y ∷ ys) x h (inr i) l = let ih = total-lt f g ys x (λ z j. h z (inr j)) i l in let here = h y (inl refl) in omega arith
 
-numbers-range : (i n k : ℕ) → In (numbers_from i n) k → (i ≤ k) × (k < i + n)
+pub numbers-range : (i n k : ℕ) → In (numbers_from i n) k → (i ≤ k) × (k < i + n)
 numbers-range i zero k m = absurd m
 numbers-range i (suc n) k (inl e) = (omega arith, omega arith)
 numbers-range i (suc n) k (inr m) = let r = numbers-range (i + 1) n k m in (let a = r.0 in omega arith, let b = r.1 in omega arith)
@@ -92,14 +92,6 @@ taken-falls P j m n b =
         | nonrenewable l r h ↦ let strict = total-lt (need P j n) (need P j m) Ns l each_n (numbers-In 1 _ l (let x = r.0 in omega arith) (let x = r.1 in omega arith)) h in omega arith
       ])
     ]
-
-some_decided : (Q : ℕ → Type 0) → ((i : ℕ) → Decided (Q i)) → (n : ℕ) → Decided ((i : ℕ) × (i < n) × Q i)
-some_decided Q dec n = elim (least_below Q dec n) [ inl found ↦ inl (found.0, found.1, found.2.attained) | inr none ↦ inr (λ s. none s.0 s.1 s.2) ]
-
-either_decided : {A B : Type 0} → Decided A → Decided B → Decided (A ⊎ B)
-either_decided (inl a) d = inl (inl a)
-either_decided (inr n) (inl b) = inl (inr b)
-either_decided (inr n) (inr k) = inr (λ e. elim e [ inl a ↦ n a | inr b ↦ k b ])
 
 pub renewable_decided : (P : Project) (k : ℕ) → Decided (IsRenewable P k)
 renewable_decided P k = both_decided (le_decided 1 k) (le_decided k (length P.capacities))

@@ -1,5 +1,6 @@
-use Rattle.std.proofs.Common.{◌≡◌, ℕ, zero, suc, ◌<◌, ◌≤◌, ◌⊎◌, inl, inr, arith, subst}
-use Rattle.std.proofs.lemmas.Bool.{cases_lt, cases_eq}
+-- What is decided, of truth values, of numbers, and of all numbers below a limit; and the least number that has a property.
+use Rattle.std.proofs.Common.{◌≡◌, ℕ, zero, suc, ◌<◌, ◌≤◌, ◌⊎◌, inl, inr, arith, subst, Bool, true, false}
+use Rattle.std.proofs.lemmas.Bool.{cases_lt, cases_eq, cases_Bool, both_ways}
 use Rattle.rcpsp_model.specs.Chain.{IsLeast}
 
 abbrev pub Decided : Type 0 → Type 0
@@ -10,6 +11,27 @@ le_decided a b = elim (cases_lt b a) [ inl h ↦ inr (λ (k : a ≤ b). omega ar
 
 pub lt_decided : (a b : ℕ) → Decided (a < b)
 lt_decided a b = elim (cases_lt a b) [ inl h ↦ inl h | inr h ↦ inr (λ (k : a < b). omega arith) ]
+
+pub implies_decided : {A B : Type 0} → Decided A → Decided B → Decided (A → B)
+implies_decided (inl a) (inl b) = inl (λ _. b)
+implies_decided (inl a) (inr n) = inr (λ f. n (f a))
+implies_decided (inr n) d = inl (λ a. absurd (n a))
+
+pub both_decided : {A B : Type 0} → Decided A → Decided B → Decided (A × B)
+both_decided (inl a) (inl b) = inl (a, b)
+both_decided (inl a) (inr n) = inr (λ p. n p.1)
+both_decided (inr n) d = inr (λ p. n p.0)
+
+pub either_decided : {A B : Type 0} → Decided A → Decided B → Decided (A ⊎ B)
+either_decided (inl a) d = inl (inl a)
+either_decided (inr n) (inl b) = inl (inr b)
+either_decided (inr n) (inr k) = inr (λ e. elim e [ inl a ↦ n a | inr b ↦ k b ])
+
+pub true_decided : (b : Bool) → Decided (b ≡ true)
+true_decided b = elim (cases_Bool b) [ inl y ↦ inl y | inr n ↦ inr (λ y. both_ways b n y) ]
+
+pub false_decided : (b : Bool) → Decided (b ≡ false)
+false_decided b = elim (cases_Bool b) [ inl y ↦ inr (λ n. both_ways b n y) | inr n ↦ inl n ]
 
 -- a property that is decided at each number below n is decided for all of them
 pub below_decided : (Q : ℕ → Type 0) → ((i : ℕ) → Decided (Q i)) → (n : ℕ) → Decided ((i : ℕ) → i < n → Q i)
@@ -42,3 +64,10 @@ least_below Q dec (suc n) =
 pub least_of : (Q : ℕ → Type 0) → ((i : ℕ) → Decided (Q i)) → (n : ℕ) → Q n → (t : ℕ) × IsLeast Q t
 least_of Q dec n q =
     elim (least_below Q dec (suc n)) [ inl found ↦ (found.0, found.2) | inr none ↦ absurd (none n (omega arith) q) ]
+
+pub some_decided : (Q : ℕ → Type 0) → ((i : ℕ) → Decided (Q i)) → (n : ℕ) → Decided ((i : ℕ) × (i < n) × Q i)
+some_decided Q dec n = elim (least_below Q dec n) [ inl found ↦ inl (found.0, found.1, found.2.attained) | inr none ↦ inr (λ s. none s.0 s.1 s.2) ]
+
+-- A least number is one.
+pub least-one : (Q : ℕ → Type 0) (a b : ℕ) → IsLeast Q a → IsLeast Q b → a ≡ b
+least-one Q a b p q = let up = p.least b q.attained in let down = q.least a p.attained in omega arith

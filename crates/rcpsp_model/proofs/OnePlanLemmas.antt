@@ -1,22 +1,21 @@
 -- A mode rule gives one plan, and so there is one first plan.
-use Rattle.std.proofs.Common.{◌≡◌, ℕ, ◌<◌, ◌≤◌, ◌⊎◌, inl, inr, arith, refl, sym, ap, subst, ◌∙◌, List, [], ◌∷◌, ◌++◌, length, append_assoc, Bool, true, false}
-use Rattle.std.specs.Prelude.{Option, Some, None, Contains}
+use Rattle.std.proofs.Common.{◌≡◌, ℕ, inl, inr, arith, refl, sym, ap, subst, ◌∙◌, List, [], ◌∷◌, ◌++◌, append_assoc}
+use Rattle.std.specs.Prelude.{Some, None, Contains}
 use Rattle.std.proofs.lemmas.Bool.{both_ways}
 use Rattle.std.proofs.lemmas.List.{append-nil}
 use Rattle.rcpsp_model.specs.declared.parts.Entry.{Entry}
 use Rattle.rcpsp_model.specs.declared.parts.Placing.{Placing}
-use Rattle.rcpsp_model.specs.Project.{Project, duration, IsAcyclic}
-use Rattle.rcpsp_model.specs.Schedule.{end_of, entries}
+use Rattle.rcpsp_model.specs.Project.{Project, IsAcyclic}
+use Rattle.rcpsp_model.specs.Schedule.{entries}
 use Rattle.rcpsp_model.specs.Chain.{IsLeast}
-use Rattle.rcpsp_model.specs.Modes.{total_need}
 use Rattle.rcpsp_model.specs.Tree.{has_job, InTurn, IsLeaf, entry_at}
-use Rattle.rcpsp_model.specs.Plan.{ModeRule, IsShortestMode, IsCheapestMode, CanRun, IsUrgent, IsScheduledNext, IsSerialPlan, IsPlanBy, IsFirstPlan}
+use Rattle.rcpsp_model.specs.Plan.{ModeRule, IsShortestMode, IsCheapestMode, CanRun, IsUrgent, IsScheduledNext, IsSerialPlan, IsPlanBy}
 use Rattle.rcpsp_model.specs.Laws.{OnePlanLaw, OneFirstPlanLaw}
 use Rattle.rcpsp_model.proofs.Lists.{In, In-from_Contains, In-All}
 use Rattle.rcpsp_model.proofs.PlanLemmas.{plan-entries}
 use Rattle.rcpsp_model.proofs.TailLemmas.{has_tail_law}
-use Rattle.rcpsp_model.proofs.TreeLemmas.{same-placings}
-use Rattle.rcpsp_model.proofs.ChildLemmas.{least-one}
+use Rattle.rcpsp_model.proofs.Merged.{same-placings}
+use Rattle.rcpsp_model.proofs.Numbers.{least-one}
 
 -- the rule gives a job one mode at most
 abbrev GivesOne : ModeRule → Project → Type 0

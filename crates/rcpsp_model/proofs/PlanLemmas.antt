@@ -1,22 +1,26 @@
-use Rattle.std.proofs.Common.{◌≡◌, ℕ, inl, inr, arith, ap, subst, List, [], ◌∷◌, ◌++◌, length, Bool, cond}
+-- What is placed in turn, within the capacities and the budgets, is a feasible schedule.
+use Rattle.std.proofs.Common.{◌≡◌, ℕ, ◌∙◌, sym, replicate, inl, inr, arith, ap, subst, List, [], ◌∷◌, ◌++◌, length, Bool, cond}
 use Rattle.std.specs.Prelude.{Contains}
+use Rattle.std.proofs.lemmas.List.{length-replicate}
 use Rattle.rcpsp_model.specs.declared.parts.Entry.{Entry}
 use Rattle.rcpsp_model.specs.declared.parts.Placing.{Placing}
-use Rattle.rcpsp_model.specs.Project.{Project, need, job_count, IsMode, IsAcyclic}
-use Rattle.rcpsp_model.specs.Schedule.{entries, IsFeasible, KeepsCapacities, KeepsBudgets}
+use Rattle.rcpsp_model.specs.Project.{Project, need, job_count, IsJob, IsMode, IsAcyclic}
+use Rattle.rcpsp_model.specs.Schedule.{end_of, entries, Agrees, IsFeasible, KeepsCapacities, KeepsBudgets}
 use Rattle.rcpsp_model.specs.Modes.{IsExecutable}
 use Rattle.rcpsp_model.specs.Tree.{has_job, IsLeaf, InTurn}
 use Rattle.rcpsp_model.specs.Plan.{ModeRule, IsShortestMode, IsCheapestMode, IsPlacedInTurn, IsScheduledNext, IsPlanBy}
-use Rattle.rcpsp_model.specs.Laws.{PlanLaw, FirstPlanLaw, NoModeLaw}
-use Rattle.rcpsp_model.proofs.Lists.{In, In-push, In-from_Contains, All-from_In, In-All, total, total-zero, sum_by-total}
+use Rattle.rcpsp_model.specs.Laws.{OwnSchedule, PlanLaw, FirstPlanLaw, NoModeLaw}
+use Rattle.rcpsp_model.proofs.Lists.{In, In-push, In-from_Contains, Contains-from_In, All-from_In, In-All, total, total-zero, sum_by-total}
 use Rattle.rcpsp_model.proofs.Entries.{DistinctJobs, distinct-push, has_job-In, entry_of, same_entry, total-others, entries-distinct, entry_at, job-from, job-below}
-use Rattle.rcpsp_model.proofs.Usage.{load, usage-total}
-use Rattle.rcpsp_model.proofs.ExchangeLemmas.{feasible-executable}
-use Rattle.rcpsp_model.proofs.FrontLemmas.{keeps-push, in_turn}
-use Rattle.rcpsp_model.proofs.DominanceLemmas.{IsSound, sound-push}
+use Rattle.rcpsp_model.proofs.Usage.{load, usage-total, finish-le-end, end-le}
+use Rattle.rcpsp_model.proofs.CompletesLemmas.{feasible-executable}
+use Rattle.rcpsp_model.proofs.FrontLemmas.{keeps-push, in_turn, spot}
+use Rattle.rcpsp_model.proofs.Merged.{merged, length-merged, merged-In, same-placings}
+use Rattle.rcpsp_model.proofs.Sound.{IsSound, sound-push}
 
 -- What holds of all entries placed so far.
 pub record IsPlan (P : Project) (F : List Entry) : Type 0 where
+  pub jobs : (e : Entry) → In F e → IsJob P e.job
   pub distinct : DistinctJobs F
   pub keeps : KeepsCapacities P F
   pub sound : IsSound P F
@@ -24,11 +28,16 @@ pub record IsPlan (P : Project) (F : List Entry) : Type 0 where
 
 plan-push : (P : Project) → IsAcyclic P → (F : List Entry) (e : Entry) → IsPlan P F → IsPlacedInTurn P F e → IsPlan P (F ++ e ∷ [])
 plan-push P a F e p f = record {
+  jobs = λ x i. elim (In-push F e x i) [ inl j ↦ p.jobs x j | inr q ↦ subst (λ (z : Entry). IsJob P z.job) q f.eligible.job ];
   distinct = distinct-push F e p.distinct f.eligible.unplaced;
   keeps = keeps-push P F e p.keeps f.can_run.fits;
   sound = sound-push P a F e p.sound f.eligible f.can_run.after_preds;
   modes = λ x i. elim (In-push F e x i) [ inl j ↦ p.modes x j | inr q ↦ subst (λ (z : Entry). IsMode P z.job z.mode) q f.mode ];
 }
+
+-- A schedule that agrees with entries has them.
+pub agrees-In : (L : List Entry) (s : List Placing) → Agrees s L → (e : Entry) → In L e → In (entries s) e
+agrees-In L s agrees e i = In-from_Contains (entries s) e (In-All (Contains (entries s)) L agrees e i)
 
 -- Where all jobs are placed, the schedule with these entries has no others.
 pub plan-entries : (P : Project) (L : List Entry) (s : List Placing) → IsLeaf P L → length s ≡ job_count P → ((e : Entry) → In L e → In (entries s) e) → (e : Entry) → In (entries s) e → In L e
@@ -63,17 +72,44 @@ plan-feasible P L s p leaf w sub budgets = record {
 plan-in_turn : (P : Project) → IsAcyclic P → (R : List Entry → Entry → Type 0) → ((F : List Entry) (e : Entry) → R F e → IsPlacedInTurn P F e) → (L : List Entry) → InTurn R [] L → IsPlan P L
 plan-in_turn P a R rule L t =
     in_turn R (IsPlan P) (λ F e p r. plan-push P a F e p (rule F e r)) [] L
-    (record { distinct = tt; keeps = λ k u r. omega arith; sound = record { closed = λ i j b h. cc; done = λ x y i j b. absurd i }; modes = λ e i. absurd i }) t
+    (record { jobs = λ e i. absurd i; distinct = tt; keeps = λ k u r. omega arith; sound = record { closed = λ i j b h. cc; done = λ x y i j b. absurd i }; modes = λ e i. absurd i }) t
+
+-- The schedule with the entries of a plan of all jobs.
+pub own-schedule : (P : Project) (L : List Entry) → IsPlan P L → IsLeaf P L → OwnSchedule P L
+own-schedule P L p leaf = record {
+  schedule = own;
+  jobs = size;
+  agrees = All-from_In (Contains (entries own)) L (λ e i. Contains-from_In (entries own) e (sub e i));
+  end =
+      let up = end-le P (entries own) (end_of P L) (λ e i. finish-le-end P L e (plan-entries P L own leaf size sub e i)) in
+      let down = end-le P L (end_of P (entries own)) (λ e i. finish-le-end P (entries own) e (sub e i)) in
+      omega arith;
+  only = λ s w agrees. same-placings 1 s own (w ∙ sym size) (λ e i. sub e (plan-entries P L s leaf w (agrees-In L s agrees) e i));
+}
+  where
+    own : List Placing
+    own = merged L 1 (replicate (job_count P) spot)
+
+    size : length own ≡ job_count P
+    size = length-merged L 1 (replicate (job_count P) spot) ∙ length-replicate (job_count P) spot
+
+    sub : (e : Entry) → In L e → In (entries own) e
+    sub e i =
+        let job = p.jobs e i in
+        let len = length-replicate (job_count P) spot in
+        merged-In L p.distinct 1 (replicate (job_count P) spot) e i job.0 (let high = job.1 in omega arith)
 
 pub plan_law : PlanLaw
-plan_law P placed s a t leaf budgets w agrees =
-    plan-feasible P placed s (plan-in_turn P a (IsPlacedInTurn P) (λ F e r. r) placed t) leaf w (λ x i. In-from_Contains (entries s) x (In-All (Contains (entries s)) placed agrees x i)) budgets
+plan_law P placed a t leaf budgets =
+    let plan = plan-in_turn P a (IsPlacedInTurn P) (λ F e r. r) placed t in
+    let own = own-schedule P placed plan leaf in
+    (own, plan-feasible P placed own.schedule plan leaf own.jobs (agrees-In placed own.schedule own.agrees) budgets)
 
 -- what the serial scheme places is placed in turn
 plan_by-feasible : (P : Project) (Rule : ModeRule) (s : List Placing) → IsAcyclic P → IsPlanBy P Rule s → IsFeasible P s
 plan_by-feasible P Rule s a p =
     plan-feasible P p.placed s (plan-in_turn P a (IsScheduledNext P Rule) (λ F e r. record { eligible = r.urgent.eligible; mode = r.mode; can_run = r.start.attained }) p.placed p.serial.in_turn) p.serial.whole p.jobs
-    (λ x i. In-from_Contains (entries s) x (In-All (Contains (entries s)) p.placed p.agrees x i)) p.budgets
+    (agrees-In p.placed s p.agrees) p.budgets
 
 pub first_plan_law : FirstPlanLaw
 first_plan_law P s a (inl f) = plan_by-feasible P IsShortestMode s a f.0

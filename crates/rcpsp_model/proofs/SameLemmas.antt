@@ -1,15 +1,11 @@
 -- A project is known by its facts.
-use Rattle.std.proofs.Common.{◌≡◌, ℕ, zero, suc, ◌+◌, ◌-◌, ◌<◌, ◌≤◌, ◌⊎◌, inl, inr, arith, refl, sym, ap, subst, ◌∙◌, List, [], ◌∷◌, length, get_or, Bool, true, false, eqb, ◌||◌, ◌&&◌}
-use Rattle.std.specs.Prelude.{All}
-use Rattle.std.specs.List.{list_any}
-use Rattle.std.proofs.lemmas.Bool.{le-leb, eqb-true, eq-eqb, or_cases, or_left, or_right}
+use Rattle.std.proofs.Common.{◌≡◌, ℕ, ◌+◌, ◌-◌, ◌<◌, ◌≤◌, inl, inr, arith, refl, sym, ap, subst, ◌∙◌, List, [], ◌∷◌, length, get_or}
 use Rattle.std.proofs.lemmas.List.{ext_get_or}
-use Rattle.std.proofs.lemmas.List.Elements.{All-get_or}
 use Rattle.rcpsp_model.specs.declared.parts.Mode.{Mode}
-use Rattle.rcpsp_model.specs.Project.{Activity, Project, no_mode, no_activity, job_count, renewables, nonrenewables, modes_of, successors_of, mode_of, duration, request, need, capacity, budget, is_before, IsJob, IsMode, IsRenewable, IsNonrenewable, IsAscending, IsModeWithinLimits, IsActivityWithinLimits, IsWithinLimits, IsProject}
+use Rattle.rcpsp_model.specs.Project.{Activity, Project, no_mode, no_activity, job_count, modes_of, successors_of, mode_of, duration, request, need, capacity, budget, IsJob, IsMode, IsAscending, IsProject}
 use Rattle.rcpsp_model.specs.Laws.{SameFacts, SameFactsLaw}
 use Rattle.rcpsp_model.proofs.Lists.{In}
-use Rattle.rcpsp_model.proofs.Successors.{any-In, before-any}
+use Rattle.rcpsp_model.proofs.Successors.{In-any, any-In, before-any}
 use Rattle.rcpsp_model.proofs.FrontLemmas.{activity-within, mode-within}
 
 -- lists of one length with the same items, counted from 1
@@ -17,11 +13,6 @@ same-items : {X : Type 0} (d : X) (xs ys : List X) → length xs ≡ length ys �
 same-items {X = X} d xs ys n h = ext_get_or d xs ys n (λ i low.
     let one : (i + 1) - 1 ≡ i = omega arith in
     subst (λ (k : ℕ). get_or xs k d ≡ get_or ys k d) one (h (i + 1) (omega arith) (omega arith)))
-
-In-any : (xs : List ℕ) (j : ℕ) → In xs j → list_any (λ s. eqb s j) xs ≡ true
-In-any [] j i = absurd i
-In-any (x ∷ xs) j (inl e) = or_left (eqb x j) (list_any (λ s. eqb s j) xs) (eq-eqb x j e)
-In-any (x ∷ xs) j (inr i) = or_right (eqb x j) (list_any (λ s. eqb s j) xs) (In-any xs j i)
 
 -- an ascending list is known by its members
 ascending-tail : (x : ℕ) (xs : List ℕ) → IsAscending (x ∷ xs) → IsAscending xs

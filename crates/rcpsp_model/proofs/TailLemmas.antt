@@ -1,11 +1,11 @@
 -- Each job has a tail.
-use Rattle.std.proofs.Common.{◌≡◌, ℕ, zero, suc, ◌+◌, ◌-◌, ◌<◌, ◌≤◌, ◌⊎◌, inl, inr, arith, refl, sym, ap, subst, ◌∙◌, List, [], ◌∷◌, Bool, true, false}
+use Rattle.std.proofs.Common.{◌≡◌, ℕ, zero, suc, ◌+◌, ◌<◌, ◌≤◌, ◌⊎◌, inl, inr, arith, refl, subst, List, [], ◌∷◌}
 use Rattle.std.specs.Prelude.{sum_by}
 use Rattle.std.proofs.lemmas.Bool.{cases_lt, cases_eq, cases_Bool, both_ways}
 use Rattle.rcpsp_model.specs.Project.{Project, job_count, jobs, is_before, Before, IsJob, IsAcyclic}
 use Rattle.rcpsp_model.specs.Chain.{least_duration, IsChain, ChainLength, IsTail}
 use Rattle.rcpsp_model.specs.Laws.{HasTailLaw}
-use Rattle.rcpsp_model.proofs.Lists.{In, total, In-le-total, sum_by-total}
+use Rattle.rcpsp_model.proofs.Lists.{total, In-le-total, sum_by-total}
 use Rattle.rcpsp_model.proofs.ModeLemmas.{numbers-In}
 
 -- among the successors below n of a job there is none, or one of greatest tail
@@ -19,10 +19,18 @@ longest_below P j (suc n) tails =
     elim (cases_Bool (is_before P j n)) [
       | inr no_ ↦ elim before [
         | inl none ↦ inl (λ k low b. elim (cases_eq k n) [ inl e ↦ both_ways (is_before P j n) no_ (subst (Before P j) e b) | inr ne ↦ none k (omega arith) b ])
-        | inr best ↦ inr (best.0, best.1, (best.2.0, best.2.1, λ i u low b is. elim (cases_eq i n) [
-          | inl e ↦ absurd (both_ways (is_before P j n) no_ (subst (Before P j) e b))
-          | inr ne ↦ best.2.2 i u (omega arith) b is
-        ]))
+        | inr best ↦ inr (
+          best.0,
+          best.1,
+          (
+            best.2.0,
+            best.2.1,
+            λ i u low b is. elim (cases_eq i n) [
+              | inl e ↦ absurd (both_ways (is_before P j n) no_ (subst (Before P j) e b))
+              | inr ne ↦ best.2.2 i u (omega arith) b is
+            ],
+          ),
+        )
       ]
       | inl here ↦
           let own = tails n here in
@@ -39,16 +47,22 @@ longest_below P j (suc n) tails =
 -- the tail of a job from those of its successors
 tail-from : (P : Project) → IsAcyclic P → (j : ℕ) → ((k : ℕ) → Before P j k → (t : ℕ) × IsTail P k t) → (t : ℕ) × IsTail P j t
 tail-from P a j tails = elim (longest_below P j (job_count P + 1) tails) [
-  | inl none ↦ (least_duration P j, record {
-    attained = ([], tt, let sum = sum_by-total (least_duration P) (j ∷ []) in omega arith);
-    greatest = λ u c. alone (λ k b. none k (let job = (a.jobs j k b).1 in let high = job.1 in omega arith) b) u c.0 c.1 c.2;
-  })
-  | inr best ↦ (least_duration P j + best.1, record {
-    attained =
-        let c = best.2.1.attained in
-        (best.0 ∷ c.0, (best.2.0, c.1), let sum = sum_by-total (least_duration P) (j ∷ best.0 ∷ c.0) in let rest = sum_by-total (least_duration P) (best.0 ∷ c.0) in let is = c.2 in omega arith);
-    greatest = λ u c. along best.1 (λ k v b is. best.2.2 k v (let job = (a.jobs j k b).1 in let high = job.1 in omega arith) b is) u c.0 c.1 c.2;
-  })
+  | inl none ↦ (
+    least_duration P j,
+    record {
+      attained = ([], tt, let sum = sum_by-total (least_duration P) (j ∷ []) in omega arith);
+      greatest = λ u c. alone (λ k b. none k (let job = (a.jobs j k b).1 in let high = job.1 in omega arith) b) u c.0 c.1 c.2;
+    },
+  )
+  | inr best ↦ (
+    least_duration P j + best.1,
+    record {
+      attained =
+          let c = best.2.1.attained in
+          (best.0 ∷ c.0, (best.2.0, c.1), let sum = sum_by-total (least_duration P) (j ∷ best.0 ∷ c.0) in let rest = sum_by-total (least_duration P) (best.0 ∷ c.0) in let is = c.2 in omega arith);
+      greatest = λ u c. along best.1 (λ k v b is. best.2.2 k v (let job = (a.jobs j k b).1 in let high = job.1 in omega arith) b is) u c.0 c.1 c.2;
+    },
+  )
 ]
   where
     alone : ((k : ℕ) → Before P j k → ⊥) → (u : ℕ) (js : List ℕ) → IsChain P (j ∷ js) → u ≡ sum_by (least_duration P) (j ∷ js) → u ≤ least_duration P j

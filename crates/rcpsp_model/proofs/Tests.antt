@@ -1,11 +1,11 @@
 -- Tests that compute the definitions on a project that is given, and what they show.
-use Rattle.std.proofs.Common.{◌≡◌, ℕ, zero, suc, ◌+◌, ◌-◌, ◌<◌, ◌≤◌, inl, inr, arith, refl, sym, ap, subst, ◌∙◌, List, [], ◌∷◌, length, Bool, true, false, eqb, leb, ltb, ◌&&◌, ◌||◌, not}
+use Rattle.std.proofs.Common.{◌≡◌, ℕ, zero, suc, ◌+◌, ◌-◌, ◌<◌, ◌≤◌, inl, inr, arith, refl, sym, subst, ◌∙◌, List, [], ◌∷◌, length, Bool, true, false, eqb, leb, ltb, ◌&&◌, ◌||◌, not}
 use Rattle.std.specs.Prelude.{All, sum_by}
-use Rattle.std.proofs.lemmas.Bool.{and_parts, and_from, leb-true, ltb-true, eqb-true, cases_eq, or_cases, both_ways, false≢true, or_left}
+use Rattle.std.proofs.lemmas.Bool.{and_parts, and_from, leb-true, ltb-true, eqb-true, cases_eq, false≢true}
 use Rattle.rcpsp_model.specs.declared.parts.Entry.{Entry}
 use Rattle.rcpsp_model.specs.declared.parts.Mode.{Mode}
 use Rattle.rcpsp_model.specs.declared.parts.Placing.{Placing}
-use Rattle.rcpsp_model.specs.Project.{Activity, Project, job_count, modes_of, successors_of, duration, request, capacity, budget, renewables, nonrenewables, is_before, Before, IsJob, IsMode, IsAscending, IsModeWithinLimits, IsActivityWithinLimits, IsWithinLimits, IsAcyclic, IsProject}
+use Rattle.rcpsp_model.specs.Project.{Activity, Project, job_count, modes_of, successors_of, duration, request, budget, renewables, nonrenewables, is_before, Before, IsMode, IsAscending, IsModeWithinLimits, IsActivityWithinLimits, IsWithinLimits, IsAcyclic, IsProject}
 use Rattle.rcpsp_model.specs.Schedule.{finish, usage, used, end_of, entries, cap, IsFeasible}
 use Rattle.rcpsp_model.specs.Tree.{has_job, Fits}
 use Rattle.rcpsp_model.proofs.Lists.{In, All-from_In, In-from_Contains}

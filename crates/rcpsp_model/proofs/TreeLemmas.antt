@@ -1,28 +1,20 @@
 -- The root, the leaves, and a longer front.
-use Rattle.std.proofs.Common.{◌≡◌, ℕ, zero, suc, ◌+◌, ◌≤◌, inl, inr, arith, refl, sym, ap, subst, ◌∙◌, List, [], ◌∷◌, ◌++◌, append_assoc, length, Bool, false, cond, eqb, ◌||◌, replicate, not}
+use Rattle.std.proofs.Common.{◌≡◌, ◌≤◌, arith, sym, subst, List, [], ◌∷◌, ◌++◌, append_assoc, false}
 use Rattle.std.specs.Prelude.{Contains}
-use Rattle.std.proofs.lemmas.Bool.{both_ways, cases_eq}
-use Rattle.std.proofs.lemmas.List.{append-nil, length-replicate}
-use Rattle.std.proofs.lemmas.List.Sums.{sum_by_push}
-use Rattle.std.proofs.lemmas.List.Elements.{All-nil, Contains-push, Contains-append_left, Contains-append_right}
-use Rattle.rcpsp_model.specs.declared.parts.Child.{Child}
-use Rattle.rcpsp_model.specs.declared.parts.Child.TheVariants.{Placed, Shut}
+use Rattle.std.proofs.lemmas.Bool.{both_ways}
+use Rattle.std.proofs.lemmas.List.{append-nil}
+use Rattle.std.proofs.lemmas.List.Elements.{All-nil}
 use Rattle.rcpsp_model.specs.declared.parts.Entry.{Entry}
-use Rattle.rcpsp_model.specs.declared.parts.Placing.{Placing}
-use Rattle.rcpsp_model.specs.declared.parts.Shut.TheVariants.{NoCapacity, NoBudget, Inefficient}
-use Rattle.rcpsp_model.specs.Project.{Project, job_count, jobs, modes_of, need, IsMode, IsAcyclic}
-use Rattle.rcpsp_model.specs.Schedule.{used, end_of, entries, entries_from, KeepsBudgets}
-use Rattle.rcpsp_model.specs.Modes.{least_need}
-use Rattle.rcpsp_model.specs.Tree.{has_job, last_start, IsEligible, Follows, InTurn, IsFront, rest_need, entry_at, IsPlacedChild, IsChild, ByMode, ByJob, ByJobs}
-use Rattle.rcpsp_model.specs.Laws.{FrontLaw, RootLaw, LeafLaw, ChildrenLaw}
-use Rattle.rcpsp_model.proofs.Lists.{In, In-push, In-append, In-from_Contains, Contains-from_In, All-from_In, total-same, sum_by-filter}
-use Rattle.rcpsp_model.proofs.Entries.{has_job-In, job-from}
-use Rattle.rcpsp_model.proofs.Changed.{entry}
-use Rattle.rcpsp_model.proofs.Usage.{finish-le-end, end-le}
-use Rattle.rcpsp_model.proofs.ExchangeLemmas.{front-distinct, kept-In}
-use Rattle.rcpsp_model.proofs.FrontLemmas.{in_turn, front-keeps, named-in_turn, spot, length-front, front-end_le}
-use Rattle.rcpsp_model.proofs.DominanceLemmas.{front-sound, merged, length-merged, merged-In}
-use Rattle.rcpsp_model.proofs.PlanLemmas.{IsPlan, plan-feasible, plan-entries}
+use Rattle.rcpsp_model.specs.Project.{Project, IsAcyclic}
+use Rattle.rcpsp_model.specs.Schedule.{entries, KeepsBudgets}
+use Rattle.rcpsp_model.specs.Tree.{has_job, last_start, Follows, InTurn, IsFront, Completes}
+use Rattle.rcpsp_model.specs.Laws.{FrontLaw, RootLaw, OwnSchedule, LeafLaw}
+use Rattle.rcpsp_model.proofs.Lists.{All-from_In}
+use Rattle.rcpsp_model.proofs.Entries.{has_job-In}
+use Rattle.rcpsp_model.proofs.CompletesLemmas.{front-distinct}
+use Rattle.rcpsp_model.proofs.FrontLemmas.{in_turn, front-keeps, named-in_turn, length-front, front-end_le}
+use Rattle.rcpsp_model.proofs.Sound.{front-sound}
+use Rattle.rcpsp_model.proofs.PlanLemmas.{IsPlan, agrees-In, plan-feasible, plan-entries, own-schedule}
 
 pub front_law : FrontLaw
 front_law P F p f = (length-front P F f, front-end_le P F p.limits f)
@@ -45,63 +37,28 @@ front-budgets P F f = in_turn (Follows P) (KeepsBudgets P) (λ G e keeps follows
 
 front-plan : (P : Project) → IsAcyclic P → (F : List Entry) → IsFront P F → IsPlan P F
 front-plan P a F f = record {
+  jobs = λ e i. (named-in_turn P [] F f e i).0;
   distinct = front-distinct P F f;
   keeps = front-keeps P F f;
   sound = front-sound P a F f;
   modes = λ e i. (named-in_turn P [] F f e i).1;
 }
 
--- A list of placings is known by its entries.
-pub same-placings : (i : ℕ) (r s : List Placing) → length r ≡ length s → ((e : Entry) → In (entries_from i r) e → In (entries_from i s) e) → r ≡ s
-same-placings i [] [] n h = refl
-same-placings i [] (q ∷ qs) n h = absurd (omega (arith, n))
-same-placings i (p ∷ ps) [] n h = absurd (omega (arith, n))
-same-placings i (p ∷ ps) (q ∷ qs) n h =
-    let head : p ≡ q = elim (h (entry i p) (inl refl)) [
-      | inl e ↦ ap placing_of (sym e)
-      | inr m ↦ absurd (let late = job-from (i + 1) qs (entry i p) m in omega arith)
-    ] in
-    let tail : ps ≡ qs = same-placings (i + 1) ps qs (let m : suc (length ps) ≡ suc (length qs) = n in omega arith) (λ e m. elim (h e (inr m)) [
-      | inl z ↦ absurd (let late = job-from (i + 1) ps e m in let same = ap (λ (y : Entry). y.job) z in omega arith)
-      | inr k ↦ k
-    ]) in
-    ap (λ (x : Placing). x ∷ ps) head ∙ ap (λ (xs : List Placing). q ∷ xs) tail
-  where
-    placing_of : Entry → Placing
-    placing_of e = record { mode = e.mode; start = e.start }
-
 pub leaf_law : LeafLaw
-leaf_law P F a f leaf = record {
-  schedule = own;
-  completes = record {
-    feasible = plan-feasible P F own (front-plan P a F f) leaf size sub (front-budgets P F f);
-    kept = All-from_In (Contains (entries own)) F (λ e i. Contains-from_In (entries own) e (sub e i));
-    rest = All-from_In (λ (e : Entry). has_job F e.job ≡ false → last_start F ≤ e.start) (entries own) (λ e i n. absurd (both_ways (has_job F e.job) n (has_job-In F e (back e i))));
-  };
-  end =
-      let up = end-le P (entries own) (end_of P F) (λ e i. finish-le-end P F e (back e i)) in
-      let down = end-le P F (end_of P (entries own)) (λ e i. finish-le-end P (entries own) e (sub e i)) in
-      omega arith;
-  only = λ s c. same-placings 1 s own (c.feasible.whole ∙ sym size) (λ e i. sub e (plan-entries P F s leaf c.feasible.whole (kept-In P F s c) e i));
-}
+leaf_law P F a f leaf =
+    let own = own-schedule P F (front-plan P a F f) leaf in
+    (own, λ s. (λ c. own.only s c.feasible.whole c.kept, λ is. subst (Completes P F) (sym is) (completes own)))
   where
-    own : List Placing
-    own = merged F 1 (replicate (job_count P) spot)
-
-    size : length own ≡ job_count P
-    size = length-merged F 1 (replicate (job_count P) spot) ∙ length-replicate (job_count P) spot
-
-    sub : (e : Entry) → In F e → In (entries own) e
-    sub e i =
-        let job = (named-in_turn P [] F f e i).0 in
-        let len = length-replicate (job_count P) spot in
-        merged-In F (front-distinct P F f) 1 (replicate (job_count P) spot) e i job.0 (let high = job.1 in omega arith)
-
-    back : (e : Entry) → In (entries own) e → In F e
-    back = plan-entries P F own leaf size sub
+    completes : (own : OwnSchedule P F) → Completes P F own.schedule
+    completes own = record {
+      feasible = plan-feasible P F own.schedule (front-plan P a F f) leaf own.jobs (agrees-In F own.schedule own.agrees) (front-budgets P F f);
+      kept = own.agrees;
+      rest = All-from_In (λ (e : Entry). has_job F e.job ≡ false → last_start F ≤ e.start) (entries own.schedule)
+          (λ e i n. absurd (both_ways (has_job F e.job) n (has_job-In F e (plan-entries P F own.schedule leaf own.jobs (agrees-In F own.schedule own.agrees) e i))));
+    }
 
 -- One more entry makes a longer front.
-in_turn-push : {X : Type 0} (R : List X → X → Type 0) (before xs : List X) (x : X) → InTurn R before xs → R (before ++ xs) x → InTurn R before (xs ++ x ∷ [])
+pub in_turn-push : {X : Type 0} (R : List X → X → Type 0) (before xs : List X) (x : X) → InTurn R before xs → R (before ++ xs) x → InTurn R before (xs ++ x ∷ [])
 in_turn-push {X = X} R before [] x t r = (subst (λ (ys : List X). R ys x) (append-nil before) r, tt)
 in_turn-push {X = X} R before (y ∷ ys) x t r = (t.0, in_turn-push R (before ++ y ∷ []) ys x t.1 (subst (λ (zs : List X). R zs x) (sym (append_assoc before (y ∷ []) ys)) r))
 

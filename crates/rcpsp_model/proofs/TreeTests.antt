@@ -1,28 +1,17 @@
 -- Tests that compute fronts, tail bounds and ranks on a project that is given, and what they show.
-use Rattle.std.proofs.Common.{◌≡◌, ℕ, zero, suc, ◌+◌, ◌-◌, ◌<◌, ◌≤◌, max, ◌⊎◌, inl, inr, arith, refl, sym, ap, subst, ◌∙◌, List, [], ◌∷◌, ◌++◌, length, Bool, true, false, eqb, leb, ◌&&◌, ◌||◌, not}
-use Rattle.std.specs.Prelude.{All, sum_by, slice_index}
-use Rattle.std.proofs.lemmas.Bool.{and_parts, and_from, leb-true, eqb-true, or_cases, both_ways, false≢true, cases_lt}
+use Rattle.std.proofs.Common.{◌≡◌, ℕ, ◌+◌, ◌≤◌, inl, inr, arith, refl, sym, ap, ◌∙◌, List, [], ◌∷◌, ◌++◌, length, Bool, true, false, eqb, leb, ◌&&◌, ◌||◌, not}
+use Rattle.std.proofs.lemmas.Bool.{and_parts, and_from, leb-true, eqb-true, or_cases, both_ways, false≢true}
 use Rattle.std.proofs.lemmas.List.Elements.{All-head}
-use Rattle.rcpsp_model.specs.declared.parts.Child.{Child}
-use Rattle.rcpsp_model.specs.declared.parts.Child.TheVariants.{Placed}
 use Rattle.rcpsp_model.specs.declared.parts.Entry.{Entry}
-use Rattle.rcpsp_model.specs.declared.parts.Placing.{Placing}
-use Rattle.rcpsp_model.specs.Project.{Project, job_count, modes_of, mode_of, successors_of, duration, request, need, capacity, budget, is_before, nonrenewables, renewables, Before, IsJob, IsMode, IsNonrenewable, IsAcyclic, IsProject}
-use Rattle.rcpsp_model.specs.Schedule.{finish, usage, used, end_of, entries, cap, calm, IsFeasible, KeepsBudgets}
-use Rattle.rcpsp_model.specs.Chain.{least_duration, IsChain, IsGreatest, IsLeast}
-use Rattle.rcpsp_model.specs.Modes.{least_work, TakesLess, time, renewable, nonrenewable, IsInefficientBy, IsEfficient, IsExecutable}
-use Rattle.rcpsp_model.specs.Tree.{has_job, last_start, CanStart, IsEligible, Follows, InTurn, IsFront, LeavesBudgets, entry_at, IsPlacedChild, ByJobs}
+use Rattle.rcpsp_model.specs.Project.{Project, job_count, modes_of, successors_of, budget, is_before, nonrenewables, Before, IsJob, IsAcyclic}
+use Rattle.rcpsp_model.specs.Schedule.{finish, used, end_of}
+use Rattle.rcpsp_model.specs.Chain.{least_duration, IsChain}
+use Rattle.rcpsp_model.specs.Tree.{has_job, last_start, Follows, InTurn}
 use Rattle.rcpsp_model.specs.Bounds.{ready, TailValue, front, chain, IsTailBound}
-use Rattle.rcpsp_model.specs.Dominance.{Dominates}
 use Rattle.rcpsp_model.specs.Rank.{is_among, HasPredecessors, IsLowestFree}
-use Rattle.rcpsp_model.specs.Examples.{at, two_in_turn, TwoInTurn, zero_lengths, before_fifth, ZeroLengths, short_or_cheap, ShortOrCheap, needs_differ, used_3, used_1, used_1_too, NeedsDiffer}
-use Rattle.rcpsp_model.proofs.Lists.{In, total, sum_by-total, In-from_Contains, All-from_In}
-use Rattle.rcpsp_model.proofs.Entries.{same_entry}
+use Rattle.rcpsp_model.proofs.Lists.{total, sum_by-total}
 use Rattle.rcpsp_model.proofs.Successors.{any-In, before-any, before-job}
-use Rattle.rcpsp_model.proofs.Usage.{load, usage-total}
-use Rattle.rcpsp_model.proofs.ExchangeLemmas.{precedes}
-use Rattle.rcpsp_model.proofs.WorkLemmas.{quotient_law}
-use Rattle.rcpsp_model.proofs.Tests.{implies-from, all_below, all_below-from, all_below-true, all_to, all_to-true, every, every-In, All-every, implies, implies-true, among, among-true, project-from_tests, feasible_test-true, preds_test, preds_test-true, fits_test, fits_test-true}
+use Rattle.rcpsp_model.proofs.Tests.{implies-from, all_below-from, all_to, all_to-true, every, every-In, All-every, implies, implies-true, among, among-true, preds_test, preds_test-true, fits_test, fits_test-true}
 
 -- A front whose entries each start at the last start, by computing.
 
@@ -116,10 +105,12 @@ free_test P before j = not (is_among before j) && all_to (λ i. implies (is_befo
 
 free_test-true : (P : Project) (before : List ℕ) (j : ℕ) → free_test P before j ≡ true → (is_among before j ≡ false) × HasPredecessors P (is_among before) j
 free_test-true P before j h =
-    let a = and_parts (not (is_among before j)) _ h in
-    (not-true (is_among before j) a.0, λ i b.
-        let job = before-job P i j b in
-        implies-true (is_before P i j) (is_among before i) (all_to-true (λ k. implies (is_before P k j) (is_among before k)) (job_count P) a.1 i job.0 job.1) b)
+    let a = and_parts (not (is_among before j)) _ h in (
+      not-true (is_among before j) a.0,
+      λ i b.
+          let job = before-job P i j b in
+          implies-true (is_before P i j) (is_among before i) (all_to-true (λ k. implies (is_before P k j) (is_among before k)) (job_count P) a.1 i job.0 job.1) b,
+    )
 
 free_test-from : (P : Project) (before : List ℕ) (j : ℕ) → is_among before j ≡ false → HasPredecessors P (is_among before) j → free_test P before j ≡ true
 free_test-from P before j h preds =
@@ -136,10 +127,12 @@ rank_test-true P before (j ∷ js) h =
     let a = and_parts (among (job_count P) j) _ h in
     let b = and_parts (free_test P before j) _ a.1 in
     let c = and_parts (all_to Later (job_count P)) _ b.1 in
-    let free = free_test-true P before j b.0 in
-    (record {
-      job = among-true (job_count P) j a.0;
-      untaken = free.0;
-      preds = free.1;
-      lowest = λ i job untaken preds. leb-true j i (implies-true (free_test P before i) (leb j i) (all_to-true Later (job_count P) c.0 i job.0 job.1) (free_test-from P before i untaken preds));
-    }, rank_test-true P (before ++ j ∷ []) js c.1)
+    let free = free_test-true P before j b.0 in (
+      record {
+        job = among-true (job_count P) j a.0;
+        untaken = free.0;
+        preds = free.1;
+        lowest = λ i job untaken preds. leb-true j i (implies-true (free_test P before i) (leb j i) (all_to-true Later (job_count P) c.0 i job.0 job.1) (free_test-from P before i untaken preds));
+      },
+      rank_test-true P (before ++ j ∷ []) js c.1,
+    )

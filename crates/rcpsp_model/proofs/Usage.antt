@@ -1,12 +1,13 @@
-use Rattle.std.proofs.Common.{◌≡◌, ℕ, ◌+◌, ◌<◌, ◌≤◌, inl, inr, arith, refl, ap, subst, List, [], ◌∷◌, length, Bool, true, cond, ltb, leb}
-use Rattle.std.proofs.lemmas.Bool.{and_from, and_left, and_right, le-leb, lt-leb, lt-ltb, le-ltb, cases_Bool, both_ways}
+-- What entries take of a renewable resource in a period, as a sum of loads; and where a job can start.
+use Rattle.std.proofs.Common.{◌≡◌, ℕ, ◌+◌, ◌<◌, ◌≤◌, inl, inr, arith, refl, ap, subst, List, [], ◌∷◌, length, Bool, cond, ltb, leb}
+use Rattle.std.proofs.lemmas.Bool.{and_from, and_left, and_right, le-leb, lt-leb, lt-ltb, le-ltb}
 use Rattle.rcpsp_model.specs.declared.parts.Entry.{Entry}
 use Rattle.rcpsp_model.specs.Project.{Project, duration, request, IsRenewable, is_before, Before}
 use Rattle.rcpsp_model.specs.Schedule.{cap, calm, finish, is_active, usage, end_of}
 use Rattle.rcpsp_model.specs.Tree.{Fits, CanStart, last_start}
 use Rattle.rcpsp_model.specs.Laws.{CapLaw, WholeLaw, CalmLaw}
 use Rattle.rcpsp_model.proofs.Lists.{In, total, total-zero, sum_by-filter, In-All, All-from_In}
-use Rattle.rcpsp_model.proofs.Numbers.{Decided, le_decided, lt_decided, below_decided}
+use Rattle.rcpsp_model.proofs.Numbers.{Decided, le_decided, lt_decided, below_decided, both_decided, implies_decided, true_decided}
 
 -- what one entry takes of a resource in a period
 abbrev pub load : Project → ℕ → ℕ → Entry → ℕ
@@ -33,19 +34,6 @@ pub end-le : (P : Project) (es : List Entry) (n : ℕ) → ((e : Entry) → In e
 end-le P [] n h = omega arith
 end-le P (x ∷ xs) n h = let here = h x (inl refl) in let ih = end-le P xs n (λ e i. h e (inr i)) in omega arith
 
-pub implies_decided : {A B : Type 0} → Decided A → Decided B → Decided (A → B)
-implies_decided (inl a) (inl b) = inl (λ _. b)
-implies_decided (inl a) (inr n) = inr (λ f. n (f a))
-implies_decided (inr n) d = inl (λ a. absurd (n a))
-
-pub both_decided : {A B : Type 0} → Decided A → Decided B → Decided (A × B)
-both_decided (inl a) (inl b) = inl (a, b)
-both_decided (inl a) (inr n) = inr (λ p. n p.1)
-both_decided (inr n) d = inr (λ p. n p.0)
-
-bool_decided : (b : Bool) → Decided (b ≡ true)
-bool_decided b = elim (cases_Bool b) [ inl y ↦ inl y | inr n ↦ inr (λ y. both_ways b n y) ]
-
 -- one resource and one period of `Fits`
 abbrev FitsAt : Project → List Entry → ℕ → ℕ → ℕ → ℕ → ℕ → Type 0
 FitsAt P es j m t k u = IsRenewable P k → t ≤ u → u < t + duration P j m → usage P es k u + request P j m k ≤ cap P k u
@@ -63,10 +51,10 @@ fits_decided P es j m t =
       | inr fails ↦ inr (λ f. fails (λ k h u high r low high2. f k u r low high))
     ]
 
-preds_decided : (P : Project) (F : List Entry) (j t : ℕ) → Decided ((x : Entry) → In F x → Before P x.job j → finish P x ≤ t)
+pub preds_decided : (P : Project) (F : List Entry) (j t : ℕ) → Decided ((x : Entry) → In F x → Before P x.job j → finish P x ≤ t)
 preds_decided P [] j t = inl (λ x i. absurd i)
 preds_decided P (y ∷ F) j t =
-    elim (both_decided (implies_decided (bool_decided (is_before P y.job j)) (le_decided (finish P y) t)) (preds_decided P F j t)) [
+    elim (both_decided (implies_decided (true_decided (is_before P y.job j)) (le_decided (finish P y) t)) (preds_decided P F j t)) [
       | inl both ↦ inl (λ x (i : In (y ∷ F) x). elim i [ inl e ↦ subst (λ (z : Entry). Before P z.job j → finish P z ≤ t) e both.0 | inr k ↦ both.1 x k ])
       | inr fails ↦ inr (λ f. fails (f y (inl refl), λ x i. f x (inr i)))
     ]

@@ -17,7 +17,7 @@ use Rattle.rcpsp_model.proofs.Lists.{In, In-push, In-All, total, total-le, sum_b
 use Rattle.rcpsp_model.proofs.Entries.{total-others, entries-distinct}
 use Rattle.rcpsp_model.proofs.Usage.{load, usage-total, load-active, finish-le-end, end-le, whole_law}
 use Rattle.rcpsp_model.proofs.ModeLemmas.{least_work-le, sum_by-unplaced}
-use Rattle.rcpsp_model.proofs.ExchangeLemmas.{kept-In, front-distinct}
+use Rattle.rcpsp_model.proofs.CompletesLemmas.{kept-In, front-distinct}
 use Rattle.rcpsp_model.proofs.FrontLemmas.{last-le-end, in_turn}
 
 -- what an entry takes of a resource in n periods from t on

@@ -7,13 +7,13 @@ use Rattle.rcpsp_model.specs.Chain.{least_duration, IsChain, IsGreatest, IsLeast
 use Rattle.rcpsp_model.specs.Modes.{least_work}
 use Rattle.rcpsp_model.specs.Tree.{has_job, last_start, unplaced, HasGap}
 
--- The tail bound: no chain of unplaced jobs is done earlier.
+-- The tail bound, by critical paths: no chain of unplaced jobs is done earlier.
 
--- the first start of an unplaced job: the last start, or the greatest finish of its placed predecessors
+-- an unplaced job starts no earlier: the greatest of the last start and the finishes of its placed predecessors
 abbrev pub ready : Project → List Entry → ℕ → ℕ
 ready P F j = max (last_start F) (end_of P (filter (λ e. is_before P e.job j) F))
 
--- the front's end, and for each chain of unplaced jobs the first start of its first job with its least durations
+-- the front's end, and for each chain of unplaced jobs when its first job is ready, and then its least durations
 pub data TailValue (P : Project) (F : List Entry) : ℕ → Type 0 where
   front : TailValue P F (end_of P F)
   chain : (j : ℕ) (js : List ℕ) → IsJob P j → IsChain P (j ∷ js) → All (λ i. has_job F i ≡ false) (j ∷ js) → TailValue P F (ready P F j + sum_by (least_duration P) (j ∷ js))
@@ -50,13 +50,12 @@ pub record IsWorkBound (P : Project) (F : List Entry) (k w : ℕ) : Type 0 where
   pub least : IsLeast (HoldsWork P F k) enough
   pub bound : w ≡ min 999999999 enough
 
--- The lower bound is the greatest of the tail bound and all work bounds.
-
+-- the values of the tail bound and of all work bounds
 pub data LowerValue (P : Project) (F : List Entry) : ℕ → Type 0 where
   tail : (t : ℕ) → IsTailBound P F t → LowerValue P F t
   work : (k w : ℕ) → IsWorkBound P F k w → LowerValue P F w
 
--- b is the lower bound of F
+-- b is the lower bound of F: the greatest of these
 abbrev pub IsLowerBound : Project → List Entry → ℕ → Type 0
 IsLowerBound P F b = IsGreatest (LowerValue P F) b
 

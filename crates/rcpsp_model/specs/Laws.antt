@@ -1,6 +1,5 @@
 -- The laws, which hold of all projects, schedules and fronts. Each is the contract of a function, and so is proved.
 use Rattle.std.specs.Prelude.{◌≡◌, Option, ℕ, ◌+◌, ◌-◌, ◌*◌, ◌/◌, ◌<◌, ◌≤◌, ◌↔◌, ◌⊎◌, min, Some, List, [], ◌∷◌, ◌++◌, length, Contains}
-use Rattle.rcpsp_model.specs.declared.parts.Child.{Child}
 use Rattle.rcpsp_model.specs.declared.parts.Child.TheVariants.{Placed}
 use Rattle.rcpsp_model.specs.declared.parts.Entry.{Entry}
 use Rattle.rcpsp_model.specs.declared.parts.Placing.{Placing}
@@ -8,9 +7,10 @@ use Rattle.rcpsp_model.specs.Project.{Project, job_count, duration, request, nee
 use Rattle.rcpsp_model.specs.Schedule.{end_of, entries, cap, calm, IsFeasible, KeepsBudgets, Agrees}
 use Rattle.rcpsp_model.specs.Chain.{IsTail}
 use Rattle.rcpsp_model.specs.Modes.{IsExecutable}
-use Rattle.rcpsp_model.specs.Tree.{last_start, IsFront, IsLeaf, InTurn, Completes, HasGap, IsPlacedChild, AreChildren}
+use Rattle.rcpsp_model.specs.Tree.{last_start, IsFront, IsLeaf, InTurn, Completes, HasGap, IsPlacedChild, Children, AreChildren}
 use Rattle.rcpsp_model.specs.Bounds.{IsTailBound, IsWorkBound, IsLowerBound, rest_work}
 use Rattle.rcpsp_model.specs.Dominance.{Dominates}
+use Rattle.rcpsp_model.specs.Rank.{IsRank}
 use Rattle.rcpsp_model.specs.Plan.{IsShortestMode, IsCheapestMode, IsPlacedInTurn, IsSerialPlan, IsFirstPlan}
 use Rattle.rcpsp_model.specs.Claim.{NoneIsFeasible, NoneEndsBefore}
 use Rattle.rcpsp_model.specs.Log.{IsClosedLog, EndsLate}
@@ -47,6 +47,16 @@ pub record SameFacts (P Q : Project) : Type 0 where
 abbrev pub SameFactsLaw : Type 0
 SameFactsLaw = (P Q : Project) → IsProject P → IsProject Q → SameFacts P Q → P ≡ Q
 
+-- a rank of a job, and no other one
+pub record OneRank (P : Project) (j : ℕ) : Type 0 where
+  pub rank : ℕ
+  pub is : IsRank P j rank
+  pub only : (r : ℕ) → IsRank P j r → r ≡ rank
+
+-- each job has exactly one rank
+abbrev pub RankLaw : Type 0
+RankLaw = (P : Project) (j : ℕ) → IsAcyclic P → IsJob P j → OneRank P j
+
 -- The tree loses nothing.
 
 -- a front has at most all jobs, and ends within its jobs' greatest durations after `calm`
@@ -57,16 +67,17 @@ FrontLaw = (P : Project) (F : List Entry) → IsProject P → IsFront P F → (l
 abbrev pub RootLaw : Type 0
 RootLaw = (P : Project) → IsFront P [] × ((s : List Placing) → Completes P [] s ↔ IsFeasible P s)
 
--- the one schedule that completes a front, which ends with it
-pub record OwnSchedule (P : Project) (F : List Entry) : Type 0 where
+-- the one schedule with these entries of all jobs, which ends when the last of them does
+pub record OwnSchedule (P : Project) (placed : List Entry) : Type 0 where
   pub schedule : List Placing
-  pub completes : Completes P F schedule
-  pub end : end_of P (entries schedule) ≡ end_of P F
-  pub only : (s : List Placing) → Completes P F s → s ≡ schedule
+  pub jobs : length schedule ≡ job_count P
+  pub agrees : Agrees schedule placed
+  pub end : end_of P (entries schedule) ≡ end_of P placed
+  pub only : (s : List Placing) → length s ≡ job_count P → Agrees s placed → s ≡ schedule
 
 -- a leaf is completed by its own schedule alone
 abbrev pub LeafLaw : Type 0
-LeafLaw = (P : Project) (F : List Entry) → IsAcyclic P → IsFront P F → IsLeaf P F → OwnSchedule P F
+LeafLaw = (P : Project) (F : List Entry) → IsAcyclic P → IsFront P F → IsLeaf P F → (own : OwnSchedule P F) × ((s : List Placing) → Completes P F s ↔ (s ≡ own.schedule))
 
 -- a placed child of F, and a schedule that completes the child and ends no later than s
 pub record Exchange (P : Project) (F : List Entry) (s : List Placing) : Type 0 where
@@ -82,21 +93,37 @@ ExchangeLaw = (P : Project) (F : List Entry) (s : List Placing) → IsAcyclic P 
 
 -- a list of a front's children, and no other list
 pub record OneList (P : Project) (F : List Entry) : Type 0 where
-  pub children : List (Child (List Entry))
+  pub children : Children
   pub are : AreChildren P F children
-  pub only : (cs : List (Child (List Entry))) → AreChildren P F cs → cs ≡ children
+  pub only : (cs : Children) → AreChildren P F cs → cs ≡ children
 
 -- the children are known by the front: each eligible job has exactly one by each of its modes
 abbrev pub OneListLaw : Type 0
 OneListLaw = (P : Project) (F : List Entry) → OneList P F
 
 -- the placed among the children are fronts, and all placed children are among them
-pub record ListsChildren (P : Project) (F : List Entry) (cs : List (Child (List Entry))) : Type 0 where
+pub record ListsChildren (P : Project) (F : List Entry) (cs : Children) : Type 0 where
   pub fronts : (G : List Entry) → Contains cs (Placed G) → IsFront P G
   pub whole : (e : Entry) → IsPlacedChild P F e → Contains cs (Placed (F ++ e ∷ []))
 
 abbrev pub ChildrenLaw : Type 0
-ChildrenLaw = (P : Project) (F : List Entry) (cs : List (Child (List Entry))) → IsFront P F → AreChildren P F cs → ListsChildren P F cs
+ChildrenLaw = (P : Project) (F : List Entry) (cs : Children) → IsFront P F → AreChildren P F cs → ListsChildren P F cs
+
+-- a front among the placed children, and a schedule that completes it and ends no later than s
+pub record LeadsOn (P : Project) (cs : Children) (s : List Placing) : Type 0 where
+  pub child : List Entry
+  pub placed : Contains cs (Placed child)
+  pub better : List Placing
+  pub completes : Completes P child better
+  pub no_later : end_of P (entries better) ≤ end_of P (entries s)
+
+-- each schedule that completes F, where that isn't a leaf, can be exchanged for one that completes one of the children
+abbrev pub Exchanges : Project → List Entry → Children → Type 0
+Exchanges P F cs = (IsLeaf P F → ⊥) → (s : List Placing) → Completes P F s → LeadsOn P cs s
+
+-- the exchange, for the children as a list
+abbrev pub ListExchangeLaw : Type 0
+ListExchangeLaw = (P : Project) (F : List Entry) (cs : Children) → IsAcyclic P → IsFront P F → AreChildren P F cs → Exchanges P F cs
 
 -- Bounds.
 
@@ -152,10 +179,16 @@ DominanceLaw = (P : Project) (A B : List Entry) (s : List Placing) → IsAcyclic
 -- what places all jobs in turn, after their predecessors, within the capacities and the budgets, is a feasible schedule
 abbrev pub PlanLaw : Type 0
 PlanLaw =
-    (P : Project) (placed : List Entry) (s : List Placing) → IsAcyclic P → InTurn (IsPlacedInTurn P) [] placed → IsLeaf P placed → KeepsBudgets P placed →
-    length s ≡ job_count P → Agrees s placed → IsFeasible P s
+    (P : Project) (placed : List Entry) → IsAcyclic P → InTurn (IsPlacedInTurn P) [] placed → IsLeaf P placed → KeepsBudgets P placed →
+    (own : OwnSchedule P placed) × IsFeasible P own.schedule
 
--- the serial scheme places the jobs in one way only, by either rule
+-- where each job has an executable mode, the serial scheme places all jobs, by either rule
+abbrev pub SerialPlanLaw : Type 0
+SerialPlanLaw =
+    (P : Project) → IsAcyclic P → ((j : ℕ) → IsJob P j → (m : ℕ) × IsMode P j m × IsExecutable P j m) →
+    ((a : List Entry) × IsSerialPlan P IsShortestMode a) × ((b : List Entry) × IsSerialPlan P IsCheapestMode b)
+
+-- it places them in one way only
 abbrev pub OnePlanLaw : Type 0
 OnePlanLaw =
     (P : Project) (a b : List Entry) → IsAcyclic P →
@@ -186,3 +219,9 @@ abbrev pub ClosedRootLaw : Type 0
 ClosedRootLaw =
     (P : Project) (d : ℕ) (expanded closed : List (List Entry)) → IsAcyclic P → IsClosedLog P d (Contains expanded) (Contains closed) →
     Contains expanded [] ⊎ Contains closed [] → NoneEndsBefore P d
+
+-- where a log is closed at each d, no schedule is feasible
+abbrev pub NoneLaw : Type 0
+NoneLaw =
+    (P : Project) (expanded closed : List (List Entry)) → IsAcyclic P → ((d : ℕ) → IsClosedLog P d (Contains expanded) (Contains closed)) →
+    Contains expanded [] ⊎ Contains closed [] → NoneIsFeasible P

@@ -4,13 +4,13 @@ use Rattle.std.specs.Prelude.{ℕ, ◌-◌, ◌*◌, ◌<◌, ◌≤◌, ◌⊎�
 use Rattle.rcpsp_model.specs.Project.{Project, modes_of, duration, request, need, capacity, nonrenewables, numbers_from, IsMode, IsRenewable, IsNonrenewable}
 use Rattle.rcpsp_model.specs.Chain.{least_over}
 
--- a mode that takes time, and asks more of a renewable resource than its capacity
+-- a mode that can't run: it takes time, and asks for more of k than its capacity
 pub record LacksCapacity (P : Project) (j m k : ℕ) : Type 0 where
   pub renewable : IsRenewable P k
   pub takes_time : 0 < duration P j m
   pub lacks : capacity P k < request P j m k
 
--- a mode that takes time asks for no more than the capacities
+-- a mode that can run: where it takes time, it asks for no more than the capacities
 abbrev pub IsExecutable : Project → ℕ → ℕ → Type 0
 IsExecutable P j m = 0 < duration P j m → (k : ℕ) → IsRenewable P k → request P j m k ≤ capacity P k
 

@@ -1,5 +1,6 @@
--- Projects: jobs with their modes and their order, and what there is of each resource (the MRCPSP of Talbot 1982; the
--- RCPSP is the case of one mode per job). Jobs, modes and resources count from 1.
+-- Projects: jobs with their modes and their order, and what there is of each resource (the MRCPSP of Talbot 1982, as in
+-- the library PSPLIB of Kolisch and Sprecher 1997; the RCPSP is the case of one mode per job). Jobs, modes and resources
+-- count from 1.
 use Rattle.std.specs.Prelude.{◌≡◌, ℕ, zero, suc, ◌+◌, ◌-◌, ◌<◌, ◌≤◌, ◌==◌, ◌&&◌, nat_le, Bool, true, List, [], ◌∷◌, length, slice_index, sum_by, All}
 use Rattle.std.specs.List.{list_any, slice_index_or}
 use Rattle.rcpsp_model.specs.declared.parts.Mode.{Mode}

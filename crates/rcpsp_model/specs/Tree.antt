@@ -67,7 +67,7 @@ pub record Completes (P : Project) (F : List Entry) (s : List Placing) : Type 0 
 
 -- Children. An eligible job in one of its modes leads to a child, which is a longer front or is shut.
 
--- the jobs that aren't placed, in ascending order
+-- the jobs that have no entry, in ascending order
 abbrev pub unplaced : Project → List Entry → List ℕ
 unplaced P F = filter (λ j. not (has_job F j)) (jobs P)
 
@@ -75,29 +75,30 @@ unplaced P F = filter (λ j. not (has_job F j)) (jobs P)
 abbrev pub rest_need : Project → List Entry → ℕ → ℕ
 rest_need P F l = sum_by (λ j. least_need P j l) (unplaced P F)
 
--- the entries and the other jobs at their least need more than the budget
+-- F has the gap l: what it needs of l, and the least that the other jobs need, is more than the budget
 pub record HasGap (P : Project) (F : List Entry) (l : ℕ) : Type 0 where
   pub nonrenewable : IsNonrenewable P l
   pub exceeds : budget P l < used P F l + rest_need P F l
 
--- the entries and the other jobs at their least need no more than any budget
+-- F has no gap
 abbrev pub LeavesBudgets : Project → List Entry → Type 0
 LeavesBudgets P F = (l : ℕ) → IsNonrenewable P l → used P F l + rest_need P F l ≤ budget P l
 
 abbrev pub entry_at : ℕ → ℕ → ℕ → Entry
 entry_at j m t = record { job = j; mode = m; start = t }
 
--- F with the job in the mode; of its start, needs don't speak
+-- F with the job in the mode, wherever it starts: only its needs are asked for
 abbrev pub extended : List Entry → ℕ → ℕ → List Entry
 extended F j m = F ++ entry_at j m 0 ∷ []
 
--- why an eligible job in a mode leads to no front: the first of three causes that applies, each by the lowest number
+-- why an eligible job in a mode leads to no front: the first cause that applies of a capacity that it exceeds in every
+-- period, a budget gap, and another mode in its place; each by the lowest number
 abbrev pub IsShut : Project → List Entry → ℕ → ℕ → Why → Type 0
 IsShut P F j m (NoCapacity k) = IsLeast (LacksCapacity P j m) k
 IsShut P F j m (NoBudget l) = IsExecutable P j m × IsLeast (HasGap P (extended F j m)) l
 IsShut P F j m (Inefficient n) = IsExecutable P j m × LeavesBudgets P (extended F j m) × IsLeast (IsInefficientBy P j m) n
 
--- the entry may follow F, and none of the three causes applies to it
+-- the entry may follow F, and none of these causes applies to it
 pub record IsPlacedChild (P : Project) (F : List Entry) (e : Entry) : Type 0 where
   pub follows : Follows P F e
   pub executable : IsExecutable P e.job e.mode
@@ -109,13 +110,16 @@ abbrev pub IsChild : Project → List Entry → ℕ → ℕ → Child (List Entr
 IsChild P F j m (Placed G) = (t : ℕ) × (G ≡ F ++ entry_at j m t ∷ []) × IsPlacedChild P F (entry_at j m t)
 IsChild P F j m (Shut i n why) = (i ≡ j) × (n ≡ m) × IsShut P F j m why
 
+abbrev pub Children : Type 0
+Children = List (Child (List Entry))
+
 -- the children of F by a job in its first modes, one after another
-abbrev pub ByMode : Project → List Entry → ℕ → ℕ → List (Child (List Entry)) → Type 0
+abbrev pub ByMode : Project → List Entry → ℕ → ℕ → Children → Type 0
 ByMode P F j zero cs = cs ≡ []
-ByMode P F j (suc m) cs = (before : List (Child (List Entry))) × (c : Child (List Entry)) × (cs ≡ before ++ c ∷ []) × ByMode P F j m before × IsChild P F j (suc m) c
+ByMode P F j (suc m) cs = (before : Children) × (c : Child (List Entry)) × (cs ≡ before ++ c ∷ []) × ByMode P F j m before × IsChild P F j (suc m) c
 
 -- the children of F by a job in all its modes, and none where the job isn't eligible
-abbrev pub ByJob : Project → List Entry → ℕ → List (Child (List Entry)) → Type 0
+abbrev pub ByJob : Project → List Entry → ℕ → Children → Type 0
 ByJob P F j cs = (IsEligible P F j × ByMode P F j (length (modes_of P j)) cs) ⊎ ((IsEligible P F j → ⊥) × (cs ≡ []))
 
 -- the new list is the old one, and then a list of this kind
@@ -123,10 +127,10 @@ abbrev pub Appends : {X : Type 0} → (List X → Type 0) → List X → List X 
 Appends {X} Q old new = (more : List X) × (new ≡ old ++ more) × Q more
 
 -- the children of F by the first jobs, one after another
-abbrev pub ByJobs : Project → List Entry → ℕ → List (Child (List Entry)) → Type 0
+abbrev pub ByJobs : Project → List Entry → ℕ → Children → Type 0
 ByJobs P F zero cs = cs ≡ []
-ByJobs P F (suc j) cs = (before : List (Child (List Entry))) × ByJobs P F j before × Appends (ByJob P F (suc j)) before cs
+ByJobs P F (suc j) cs = (before : Children) × ByJobs P F j before × Appends (ByJob P F (suc j)) before cs
 
 -- the children of F: by ascending job, and then by ascending mode
-abbrev pub AreChildren : Project → List Entry → List (Child (List Entry)) → Type 0
+abbrev pub AreChildren : Project → List Entry → Children → Type 0
 AreChildren P F cs = ByJobs P F (job_count P) cs

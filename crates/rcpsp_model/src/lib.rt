@@ -15,5 +15,5 @@ pub use examples::{needs_differ, short_or_cheap, two_in_turn, zero_lengths};
 pub use log::closed_log;
 pub use parts::{Child, Entry, Mode, Placing, Shut, Verdict};
 pub use plan::{first_plan, no_executable_mode, placed_in_turn, serial_plan};
-pub use project::{capacities, same_facts};
+pub use project::{capacities, job_rank, same_facts};
 pub use tree::{children, dominance, exchange, front_limits, leaf, one_list, root};

@@ -1,14 +1,14 @@
-ghost use Rattle.rcpsp_model.specs.Laws.{PlanLaw, OnePlanLaw, OneFirstPlanLaw, FirstPlanLaw, NoModeLaw};
+ghost use Rattle.rcpsp_model.specs.Laws.{PlanLaw, SerialPlanLaw, OnePlanLaw, OneFirstPlanLaw, FirstPlanLaw, NoModeLaw};
 
 /// What places all jobs in turn, after their predecessors, within the capacities and the budgets, is feasible.
-#[tactic(auto, using(crate::proofs::PlanLemmas::plan_law))]
 pub fn placed_in_turn()
     ensures { PlanLaw }
 {}
 
-/// The serial scheme places the jobs in one way only, by either mode rule.
+/// Where each job has an executable mode, the serial scheme places all jobs by either mode rule, and in one way only.
 pub fn serial_plan()
-    ensures { OnePlanLaw }
+    ensures exists { SerialPlanLaw }
+    ensures one { OnePlanLaw }
 {}
 
 /// There is one first plan, or none; and it is feasible.

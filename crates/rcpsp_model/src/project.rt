@@ -1,4 +1,4 @@
-ghost use Rattle.rcpsp_model.specs.Laws.{CapLaw, WholeLaw, CalmLaw, SameFactsLaw};
+ghost use Rattle.rcpsp_model.specs.Laws.{CapLaw, WholeLaw, CalmLaw, SameFactsLaw, RankLaw};
 
 /// What there is of a renewable resource in a period, where other laws rely on it.
 #[tactic(auto, using(crate::proofs::Usage::cap_law, crate::proofs::Usage::whole_law, crate::proofs::Usage::calm_law))]
@@ -11,4 +11,10 @@ pub fn capacities()
 /// Two projects with the same facts are equal.
 pub fn same_facts()
     ensures { SameFactsLaw }
+{}
+
+/// Each job has exactly one rank.
+#[tactic(auto, using(crate::proofs::RankLemmas::rank_law))]
+pub fn job_rank()
+    ensures { RankLaw }
 {}

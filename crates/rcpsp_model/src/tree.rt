@@ -1,4 +1,4 @@
-ghost use Rattle.rcpsp_model.specs.Laws.{FrontLaw, RootLaw, LeafLaw, ExchangeLaw, OneListLaw, ChildrenLaw, DominanceLaw};
+ghost use Rattle.rcpsp_model.specs.Laws.{FrontLaw, RootLaw, LeafLaw, ExchangeLaw, ListExchangeLaw, OneListLaw, ChildrenLaw, DominanceLaw};
 
 /// How long a front can be, and when it ends at the latest.
 #[tactic(auto, using(crate::proofs::TreeLemmas::front_law))]
@@ -13,16 +13,16 @@ pub fn root()
 {}
 
 /// A leaf is completed by its own schedule alone, which ends with it.
-#[tactic(auto, using(crate::proofs::TreeLemmas::leaf_law))]
 pub fn leaf()
     ensures { LeafLaw }
 {}
 
 /// Whatever completes a front that isn't a leaf can be exchanged, at no later end, for what completes one of its placed
 /// children.
-#[tactic(auto, using(crate::proofs::ExchangeLemmas::exchange_law))]
+#[tactic(auto, using(crate::proofs::ExchangeLemmas::exchange_law, crate::proofs::ChildLemmas::list_exchange_law))]
 pub fn exchange()
-    ensures { ExchangeLaw }
+    ensures entry { ExchangeLaw }
+    ensures list { ListExchangeLaw }
 {}
 
 /// A front has one list of children: each eligible job has exactly one child by each of its modes.

@@ -1,9 +1,18 @@
 -- Texts by name, looked for from the front.
-use Rattle.std.proofs.Common.{◌≡◌, ℕ, ◌+◌, ◌<◌, true, false, cond, ◌||◌, sym, ap, ◌∙◌, arith, List, ◌∷◌, length, drop, map, get_or}
+use Rattle.std.proofs.Common.{◌≡◌, ℕ, ◌+◌, ◌<◌, Bool, true, false, cond, refl, ◌||◌, sym, ap, ◌∙◌, arith, List, [], ◌∷◌, length, drop, map, get_or}
 use Rattle.std.proofs.lemmas.List.{drop_more, length-map, get_or-map}
 use Rattle.std.specs.Str.{bytes_eq}
 use Rattle.sched_base.specs.Outside.{text_under}
 use Rattle.sched_base.specs.Memory.{has_text}
+
+-- no text has the name, so what stands under it is the empty text
+pub no_text : (texts : List (List ℕ × List ℕ)) (name : List ℕ) → has_text texts name ≡ false → text_under texts name ≡ []
+no_text [] name none = refl
+no_text (text ∷ more) name none = at (bytes_eq text.0 name) none (no_text more name)
+  where
+    at : (b : Bool) → b || has_text more name ≡ false → (has_text more name ≡ false → text_under more name ≡ []) → cond b text.1 (text_under more name) ≡ []
+    at true none rest = absurd (cc)
+    at false none rest = rest none
 
 module _ {X : Type 0} (text : X → List ℕ × List ℕ) (xs : List X) (place : ℕ) (d : X) (within : place < length xs) where
   -- the texts from a place on begin with the one at it

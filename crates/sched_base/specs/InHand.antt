@@ -1,7 +1,7 @@
 -- The text in hand of a shelf in memory.
 use Rattle.std.specs.Prelude.{ℕ, ◌-◌, ◌<◌, ◌≤◌, List, [], length, drop, Option, None, Some}
 use Rattle.std.specs.List.{slice_index_or}
-use Rattle.sched_base.specs.declared.mem_shelf.InHand.{InHand}
+use Rattle.sched_base.specs.declared.texts.InHand.{InHand}
 
 -- the text at a place, from 0
 abbrev pub text_at : List (List ℕ × List ℕ) → ℕ → List ℕ

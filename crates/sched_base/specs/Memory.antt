@@ -1,5 +1,5 @@
 -- A shelf and a sink in memory, whose calls fail where they are told to.
-use Rattle.std.specs.Prelude.{ℕ, ◌+◌, ◌-◌, ◌^◌, ◌==◌, ◌&&◌, ◌||◌, min, Bool, not, nat_le, nat_lt, List, length, if◌then◌else◌}
+use Rattle.std.specs.Prelude.{ℕ, ◌+◌, ◌-◌, ◌^◌, ◌==◌, ◌&&◌, ◌||◌, min, Bool, not, Option, Some, None, nat_le, nat_lt, List, length, if◌then◌else◌}
 use Rattle.std.specs.List.{list_any}
 use Rattle.std.specs.Str.{bytes_eq}
 
@@ -48,3 +48,18 @@ pub record SinkState : Type 0 where
 -- a call of `write` fails where it is listed, or where there are bytes and no room for one of them
 abbrev pub write_fails : SinkState → List ℕ → Bool
 write_fails sink piece = is_listed sink.failing sink.calls || (nat_lt 0 (length piece) && nat_le sink.room (length sink.held))
+
+-- a shelf that never fails: its texts, and what is left of the one in hand
+pub record SureShelfState : Type 0 where
+  pub texts : List (List ℕ × List ℕ)
+  pub left : List ℕ
+
+-- a sink that never fails: the bytes kept, the most that it can keep, and whether some weren't kept
+pub record SureSinkState : Type 0 where
+  pub kept : List ℕ
+  pub room : ℕ
+  pub has_lost : Bool
+
+-- it tells its bytes while all were kept
+abbrev pub told : SureSinkState → Option (List ℕ)
+told sink = if sink.has_lost then None else Some sink.kept

@@ -6,14 +6,8 @@ ghost use Rattle.sched_base.specs.InHand.{text_at};
 use crate::faults::Failed;
 use crate::listed::is_listed;
 use crate::outside::Shelf;
+use crate::texts::{InHand, give, place_of};
 use std::marker::Model;
-
-/// A text in hand, and how many bytes of it are left.
-#[derive(Clone, Copy, Debug, PartialEq, Eq)]
-struct InHand {
-    text: usize,
-    left: usize,
-}
 
 /// A shelf over texts in memory, whose listed calls fail.
 #[derive(Drop)]
@@ -29,10 +23,9 @@ pub struct MemShelf {
 impl Model for MemShelf {
     ghost use Rattle.std.specs.Prelude.{◌≤◌, map, string_bytes};
     ghost use Rattle.sched_base.specs.Memory.{ShelfState};
+    ghost use Rattle.sched_base.specs.InHand.{left_of, IsWithin};
 
     ghost Value = { ShelfState };
-
-    ghost use Rattle.sched_base.specs.InHand.{left_of, IsWithin};
 
     ghost view = { λ s. record {
       texts = map (λ t. (string_bytes t.0, t.1.items)) s.texts.items;
@@ -44,20 +37,6 @@ impl Model for MemShelf {
     } };
 
     ghost invariant = { λ s. IsWithin (map (λ t. (string_bytes t.0, t.1.items)) s.texts.items) s.hand × (1 ≤ s.step) };
-}
-
-/// The place of the first text of a name.
-fn place_of(texts: &[(String, Vec<u8>)], name: &str) -> Option<usize>
-    ensures found { IfSome result (λ i. i < length texts.now) }
-    ensures text { IfSome result (λ i. text_at (map (λ t. (string_bytes t.0, t.1.items)) texts.now) i ≡ text_under (map (λ t. (string_bytes t.0, t.1.items)) texts.now) name.now) }
-    ensures has { is_some result ≡ has_text (map (λ t. (string_bytes t.0, t.1.items)) texts.now) name.now }
-{
-    for place in 0..texts.len() {
-        if texts[place].0.as_str() == name {
-            return Some(place);
-        }
-    }
-    None
 }
 
 impl MemShelf {
@@ -77,7 +56,6 @@ impl MemShelf {
             faults: 0,
         }
     }
-
     /// What is left of the text in hand.
     fn left(&self) -> &[u8]
         ensures { result.now ≡ self.now.left }
@@ -90,16 +68,6 @@ impl MemShelf {
             }
         }
     }
-}
-
-/// Fills the front of the piece with the first bytes of what is left, at most `step`, and says how many.
-fn give(left: &[u8], step: usize, piece: &mut [u8]) -> usize
-    ensures count { result ≡ min (length piece.new) (min step (length left.now)) }
-    ensures given { take result piece.new ≡ take result left.now }
-{
-    let count = piece.len().min(step).min(left.len());
-    piece[..count].copy_from_slice(&left[..count]);
-    count
 }
 
 impl Shelf for MemShelf {

@@ -1,0 +1,4 @@
+pub mod ChainLemmas
+pub mod ClaimLemmas
+pub mod ReportLemmas
+pub mod FrontLemmas

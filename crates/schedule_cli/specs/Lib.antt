@@ -1,2 +1,4 @@
 pub mod Words
 pub mod Status
+pub mod Solve
+pub mod Answer

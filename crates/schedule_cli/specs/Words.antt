@@ -1,6 +1,9 @@
 -- The words of a command, and the place of the first that can't stand.
 use Rattle.std.specs.Prelude.{ℕ, ◌+◌, Bool, not, ◌==◌, List, [], ◌∷◌, length, codes, Option, None, Some, if◌then◌else◌}
+use Rattle.std.specs.List.{slice_index_or}
 use Rattle.std.specs.Str.{bytes_eq}
+use Rattle.schedule_cli.specs.declared.words.Command.{Command}
+use Rattle.schedule_cli.specs.declared.words.Command.TheVariants.{Solve}
 
 -- the name of a project or a report: any text that isn't empty
 abbrev pub is_name : List ℕ → Bool
@@ -19,6 +22,14 @@ is_log_no word = bytes_eq word (codes "log=no")
 
 abbrev pub is_solve : List ℕ → Bool
 is_solve word = bytes_eq word (codes "solve")
+
+-- the name of the project, which is the second word
+abbrev pub project_name : List (List ℕ) → List ℕ
+project_name words = slice_index_or words 1 []
+
+-- the name that a command speaks of
+abbrev pub name_in : Command → List ℕ
+name_in (Solve project) = project.now
 
 -- the place, from 1, of the first word that can't stand in `solve PROJECT log=no`, or one past the last where a word
 -- is missing; none where the words are a command

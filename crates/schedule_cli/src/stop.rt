@@ -1,4 +1,4 @@
-use sched_base::Failed;
+use sched_base::{Failed, NoMemory};
 use std::alloc::AllocError;
 
 /// Why a run stops before it has anything to tell.
@@ -29,5 +29,16 @@ impl From<Failed> for Stop {
 
     fn from(_failed: Failed) -> Stop {
         Stop::ReadFault
+    }
+}
+
+impl From<NoMemory> for Stop {
+    ghost use Rattle.std.specs.Prelude.{◌≡◌};
+    ghost use Rattle.schedule_cli.specs.declared.stop.Stop.TheVariants as stops;
+
+    ghost from_gives = { λ _ stop. stop ≡ stops.NoMemory };
+
+    fn from(_refused: NoMemory) -> Stop {
+        Stop::NoMemory
     }
 }

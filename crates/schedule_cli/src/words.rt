@@ -1,11 +1,23 @@
 ghost use Rattle.std.specs.Prelude.{◌≡◌, ◌<◌, ◌≤◌, ◌^◌, ◌∷◌, [], map, length, codes, string_bytes, Some, None, IfOk, IfErr, OnOk};
-ghost use Rattle.schedule_cli.specs.Words.{first_bad, is_name, is_log_no, bad_word};
+ghost use Rattle.std.specs.List.{slice_index_or};
+ghost use Rattle.schedule_cli.specs.Words.{first_bad, is_name, is_log_no, bad_word, project_name, name_in};
 
 /// A command of the program, with its words.
 #[derive(Clone, Copy, Debug, PartialEq, Eq)]
 pub enum Command<'w> {
     /// Solve the project under this name.
     Solve { project: &'w str },
+}
+
+impl<'w> Command<'w> {
+    /// The name of the project that the command speaks of.
+    pub fn project(&self) -> &'w str
+        ensures { result.now ≡ name_in self.now }
+    {
+        match *self {
+            Command::Solve { project } => project,
+        }
+    }
 }
 
 /// Words that are no command.
@@ -19,6 +31,7 @@ pub struct BadWords {
 pub fn parse_words(words: &[String]) -> Result<Command<'_>, BadWords>
     ensures command { OnOk result (bad_word (map string_bytes words.now) ≡ None) }
     ensures fault { IfErr result (λ bad. bad_word (map string_bytes words.now) ≡ Some bad.place) }
+    ensures name { IfOk result (λ command. name_in command ≡ project_name (map string_bytes words.now)) }
 {
     match words {
         [command, rest @ ..] if command.as_str() == "solve" => parse_solve(rest),
@@ -30,6 +43,7 @@ pub fn parse_words(words: &[String]) -> Result<Command<'_>, BadWords>
 fn parse_solve(words: &[String]) -> Result<Command<'_>, BadWords>
     ensures command { OnOk result (first_bad (is_name ∷ is_log_no ∷ []) (map string_bytes words.now) 2 ≡ None) }
     ensures fault { IfErr result (λ bad. first_bad (is_name ∷ is_log_no ∷ []) (map string_bytes words.now) 2 ≡ Some bad.place) }
+    ensures name { IfOk result (λ command. name_in command ≡ slice_index_or (map string_bytes words.now) 0 []) }
 {
     match words {
         [project, rest @ ..] if !project.is_empty() => match parse_log_no(rest) {

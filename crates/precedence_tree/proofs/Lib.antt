@@ -1,0 +1,4 @@
+pub mod Fronts
+pub mod Needs
+pub mod Branches
+pub mod Leaves

@@ -1,0 +1,5 @@
+use Rattle.profiles.specs.Placed.{IsProfileOf}
+use Rattle.profiles.proofs.tests.place_all.Given as goal
+
+abbrev pub invariant-loop-job : goal.invariant-loop-job
+invariant-loop-job l = IsProfileOf l.project l.profile

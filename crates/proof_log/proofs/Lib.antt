@@ -1,0 +1,10 @@
+pub mod LineLemmas
+pub mod WritingLemmas
+pub mod NumberLemmas
+pub mod SplitLemmas
+pub mod WordLemmas
+pub mod FoundLemmas
+pub mod AgainLemmas
+pub mod PartLemmas
+pub mod TextLemmas
+pub mod LineReaderLemmas

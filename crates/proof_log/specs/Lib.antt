@@ -1,0 +1,5 @@
+pub mod Line
+pub mod Report
+pub mod Text
+pub mod Reading
+pub mod Lines

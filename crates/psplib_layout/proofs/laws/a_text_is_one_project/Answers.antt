@@ -1,0 +1,5 @@
+use Rattle.psplib_layout.proofs.TextLemmas.{one_project}
+use Rattle.psplib_layout.proofs.laws.a_text_is_one_project.Goals as goal
+
+pub returns : goal.returns
+returns c text P Q = one_project text P Q

@@ -1,0 +1,5 @@
+use Rattle.rcpsp_model.proofs.tree.leaf.Goals as goal
+use Rattle.rcpsp_model.proofs.TreeLemmas.{leaf_law}
+
+pub returns : goal.returns
+returns c = leaf_law

@@ -1,0 +1,52 @@
+ghost use Rattle.std.specs.Prelude.{◌≡◌};
+ghost use Rattle.schedule_cli.specs.Answer.{status_of_verdict};
+
+use crate::status::Status;
+use crate::words::BadWords;
+use proof_log::Report;
+use psplib_layout::Refusal;
+use rcpsp_model::Verdict;
+
+/// What a project text comes to.
+#[derive(Drop)]
+pub enum Solution {
+    /// It is a project, with this report.
+    Solved(Report),
+    /// It is no project.
+    BadProject(Refusal),
+}
+
+/// What a run has to tell.
+#[derive(Drop)]
+pub enum Answer {
+    /// The words are a command, whose project text comes to this.
+    Solution(Solution),
+    /// The words are no command.
+    BadWords(BadWords),
+}
+
+/// The status of a verdict.
+fn verdict_status(verdict: Verdict) -> Status
+    ensures { result ≡ status_of_verdict verdict }
+{
+    match verdict {
+        Verdict::Optimal { .. } => Status::Done,
+        Verdict::Infeasible => Status::Infeasible,
+        Verdict::Limit { .. } => Status::Limit,
+    }
+}
+
+impl Answer {
+    ghost use Rattle.schedule_cli.specs.Answer.{status_of};
+
+    /// The status that the answer has.
+    pub fn status(&self) -> Status
+        ensures { result ≡ status_of self.now }
+    {
+        match self {
+            Answer::Solution(Solution::Solved(report)) => verdict_status(report.verdict),
+            Answer::Solution(Solution::BadProject(_)) => Status::BadProject,
+            Answer::BadWords(_) => Status::BadWords,
+        }
+    }
+}

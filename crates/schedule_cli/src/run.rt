@@ -1,0 +1,102 @@
+ghost use Rattle.std.specs.Prelude.{◌≡◌, ◌⊎◌, ◌≤◌, Err, None, Some, IsSome, IfOk, IfSome, OnOk, [], map, string_bytes};
+ghost use Rattle.sched_base.specs.Outside.{Gains, GainsFront, Rose, text_under};
+ghost use Rattle.psplib_layout.specs.declared.fault.ReadError.TheVariants as errors;
+ghost use Rattle.schedule_cli.specs.declared.answer.Answer.{Answer as Told};
+ghost use Rattle.schedule_cli.specs.declared.answer.Answer.TheVariants as answers;
+ghost use Rattle.schedule_cli.specs.declared.stop.Stop.TheVariants as stops;
+ghost use Rattle.schedule_cli.specs.Words.{bad_word};
+ghost use Rattle.schedule_cli.specs.Answer.{IsSolutionOf, IsReportOn, IsAnswerTo, IsTellable, IsTold, status_of, text_of};
+ghost use Rattle.proof_log.specs.Report.{IsReport};
+
+use crate::answer::{Answer, Solution};
+use crate::reading::read_text;
+use crate::status::Status;
+use crate::stop::Stop;
+use crate::tell::{Untold, tell};
+use crate::verdict::verdict_of;
+use crate::words::parse_words;
+use project_net::Project;
+use proof_log::Report;
+use psplib_layout::ReadError;
+use psplib_reader::read_project;
+use sched_base::{Gate, NoMemory, Shelf, Sink};
+use serial_scheme::first_plan;
+use std::alloc::Global;
+use std::thread::Threads;
+
+/// The report on a project: its first plan, and what the plan and the longest chain show.
+fn report_on(alloc: Global, p: &Project) -> Result<Report, NoMemory>
+    ensures report { IfOk result (λ report. IsReportOn p.now report) }
+    ensures text { IfOk result IsReport }
+{
+    let best = first_plan(alloc, p)?;
+    let verdict = verdict_of(p, &best);
+    Ok(Report {
+        verdict,
+        best,
+        log: None,
+    })
+}
+
+/// What a project text comes to.
+fn solution_of(alloc: Global, text: &[u8]) -> Result<Solution, Stop>
+    ensures solution { IfOk result (λ solution. IsSolutionOf text.now solution) }
+    ensures text { IfOk result (λ solution. IsTellable (answers.Solution solution)) }
+    ensures memory { result ≡ Err stops.ReadFault → ⊥ }
+{
+    match read_project(alloc, text) {
+        Ok(project) => Ok(Solution::Solved(report_on(alloc, &project)?)),
+        Err(ReadError::Refused(refusal)) => Ok(Solution::BadProject(refusal)),
+        Err(ReadError::NoMemory) => Err(Stop::NoMemory),
+    }
+}
+
+/// The answer to the words.
+fn answer_to<S: Shelf>(alloc: Global, words: &[String], shelf: &mut S) -> Result<Answer, Stop>
+    ensures answer { IfOk result (λ answer. IsAnswerTo (map string_bytes words.now) (S.texts shelf.old) answer) }
+    ensures text { IfOk result IsTellable }
+    ensures fault { result ≡ Err stops.ReadFault → (bad_word (map string_bytes words.now) ≡ None) × Rose (S.faults shelf.old) (S.faults shelf.new) }
+{
+    match parse_words(words) {
+        Ok(command) => {
+            let text = read_text(alloc, shelf, command.project())?;
+            Ok(Answer::Solution(solution_of(alloc, &text)?))
+        }
+        Err(bad) => Ok(Answer::BadWords(bad)),
+    }
+}
+
+/// Runs the program on these words: reads the project from the shelf, and writes what there is to tell to the sink.
+///
+/// The words are `solve PROJECT log=no`. All memory is taken before the first byte is written.
+pub fn run<R: Threads + Sync, S: Shelf, K: Sink, G: Gate + Sync>(
+    _rt: &R,
+    alloc: Global,
+    words: &[String],
+    shelf: &mut S,
+    out: &mut K,
+    _gate: &G,
+) -> Status
+    // What is told is the answer to the words, whole, with its status.
+    ensures told { IsTold result → (answer : Told) × IsAnswerTo (map string_bytes words.now) (S.texts shelf.old) answer
+        × (result ≡ status_of answer) × Gains (K.held out.old) (K.held out.new) (text_of answer) }
+
+    // A fault of the sink leaves a front of that text.
+    ensures cut_off { result ≡ Status.WriteFault → (answer : Told) × IsAnswerTo (map string_bytes words.now) (S.texts shelf.old) answer
+        × GainsFront (K.held out.old) (K.held out.new) (text_of answer) }
+    ensures write_fault { result ≡ Status.WriteFault → Rose (K.faults out.old) (K.faults out.new) }
+
+    // A fault of the shelf, or want of memory, leaves nothing; the words of a faulty shelf are a command.
+    ensures read_fault { result ≡ Status.ReadFault → (bad_word (map string_bytes words.now) ≡ None) × Rose (S.faults shelf.old) (S.faults shelf.new) }
+    ensures silent { (result ≡ Status.ReadFault) ⊎ (result ≡ Status.NoMemory) → Gains (K.held out.old) (K.held out.new) [] }
+{
+    match answer_to(alloc, words, shelf) {
+        Ok(answer) => match tell(alloc, out, &answer) {
+            Ok(()) => answer.status(),
+            Err(Untold::WriteFault) => Status::WriteFault,
+            Err(Untold::NoMemory) => Status::NoMemory,
+        },
+        Err(Stop::ReadFault) => Status::ReadFault,
+        Err(Stop::NoMemory) => Status::NoMemory,
+    }
+}

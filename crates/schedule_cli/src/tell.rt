@@ -1,0 +1,86 @@
+ghost use Rattle.std.specs.Prelude.{◌≡◌, ◌++◌, [], codes, decimal, string_bytes, IfOk, OnOk, Err};
+ghost use Rattle.sched_base.specs.Outside.{Gains, GainsFront, Rose};
+ghost use Rattle.schedule_cli.specs.Answer.{code_of, line, text_of, IsTellable};
+ghost use Rattle.schedule_cli.specs.declared.tell.Untold.TheVariants.{NoMemory, WriteFault};
+
+use crate::answer::{Answer, Solution};
+use crate::words::BadWords;
+use proof_log::write_report;
+use psplib_layout::{Fault, Refusal};
+use sched_base::{Failed, Sink, write_whole};
+use std::alloc::{AllocError, Global};
+
+/// Why an answer wasn't told whole.
+#[derive(Clone, Copy, Debug, PartialEq, Eq)]
+pub enum Untold {
+    /// Memory was refused, before anything was written.
+    NoMemory,
+    /// A call of the sink failed.
+    WriteFault,
+}
+
+impl From<AllocError> for Untold {
+    ghost use Rattle.std.specs.Prelude.{◌≡◌};
+    ghost use Rattle.schedule_cli.specs.declared.tell.Untold.TheVariants.{NoMemory};
+
+    ghost from_gives = { λ _ why. why ≡ NoMemory };
+
+    fn from(_refused: AllocError) -> Untold {
+        Untold::NoMemory
+    }
+}
+
+impl From<Failed> for Untold {
+    ghost use Rattle.std.specs.Prelude.{◌≡◌};
+    ghost use Rattle.schedule_cli.specs.declared.tell.Untold.TheVariants.{WriteFault};
+
+    ghost from_gives = { λ _ why. why ≡ WriteFault };
+
+    fn from(_failed: Failed) -> Untold {
+        Untold::WriteFault
+    }
+}
+
+/// The line that tells which word can't stand.
+fn bad_words_line(alloc: Global, bad: BadWords) -> Result<String, AllocError>
+    ensures { IfOk result (λ s. string_bytes s ≡ codes "bad words: word " ++ line (decimal bad.place)) }
+{
+    let place = bad.place;
+    format!(in alloc; "bad words: word {place}\n")
+}
+
+/// The number of a fault.
+fn code(fault: Fault) -> u8
+    ensures { result ≡ code_of fault }
+{
+    fault as u8
+}
+
+/// The line that tells why a text is no project.
+fn bad_project_line(alloc: Global, code: u8, number: u32) -> Result<String, AllocError>
+    ensures { IfOk result (λ s. string_bytes s ≡ codes "bad project: code " ++ (decimal code ++ (codes " line " ++ line (decimal number)))) }
+{
+    format!(in alloc; "bad project: code {code} line {number}\n")
+}
+
+/// Writes the text of the answer. All memory is taken before the first byte is written.
+pub fn tell<K: Sink>(alloc: Global, out: &mut K, answer: &Answer) -> Result<(), Untold>
+    requires { IsTellable answer.now }
+    ensures whole { OnOk result (Gains (K.held out.old) (K.held out.new) (text_of answer.now)) }
+    ensures front { result ≡ Err WriteFault → GainsFront (K.held out.old) (K.held out.new) (text_of answer.now) }
+    ensures fault { result ≡ Err WriteFault → Rose (K.faults out.old) (K.faults out.new) }
+    ensures silent { result ≡ Err NoMemory → Gains (K.held out.old) (K.held out.new) [] }
+{
+    match answer {
+        Answer::Solution(Solution::Solved(report)) => write_report(out, report)?,
+        Answer::Solution(Solution::BadProject(refusal)) => {
+            let line = bad_project_line(alloc, code(refusal.fault), refusal.line)?;
+            write_whole(out, line.as_bytes())?;
+        }
+        Answer::BadWords(bad) => {
+            let line = bad_words_line(alloc, *bad)?;
+            write_whole(out, line.as_bytes())?;
+        }
+    }
+    Ok(())
+}

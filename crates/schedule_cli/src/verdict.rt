@@ -1,0 +1,53 @@
+ghost use Rattle.std.specs.Prelude.{◌≡◌, ◌≤◌, ℕ, None, IfSome};
+ghost use Rattle.rcpsp_model.specs.Schedule.{end_of, entries};
+ghost use Rattle.rcpsp_model.specs.Plan.{IsFirstPlan};
+ghost use Rattle.rcpsp_model.specs.Claim.{Claim, NoneIsFeasible};
+ghost use Rattle.proof_log.specs.Report.{IsReport};
+ghost use Rattle.schedule_cli.specs.Solve.{IsLongestChain, IsSingleMode, IsVerdictOf};
+
+use crate::chain::{is_single_mode, longest_chain};
+use project_net::{Project, Schedule};
+use rcpsp_model::{Verdict, first_plan, job_tail};
+
+/// The verdict of a first plan, where the longest chain has this length.
+fn judged(p: &Project, plan: &Option<Schedule>, longest: u32) -> Verdict
+    requires first { IsFirstPlan p.now plan.now }
+    requires early { IfSome plan.now (λ s. end_of p.now (entries s) ≤ 1280000) }
+    ensures { IsVerdictOf p.now longest plan.now result }
+{
+    p.known();
+    first_plan();
+    match plan {
+        Some(plan) => {
+            let duration = p.end(plan);
+            if duration == longest {
+                Verdict::Optimal { duration }
+            } else {
+                Verdict::Limit {
+                    duration: Some(duration),
+                    lower: longest,
+                }
+            }
+        }
+        None if is_single_mode(p) => Verdict::Infeasible,
+        None => Verdict::Limit {
+            duration: None,
+            lower: longest,
+        },
+    }
+}
+
+/// The verdict of the first plan: optimal where it ends with the longest chain.
+pub fn verdict_of(p: &Project, plan: &Option<Schedule>) -> Verdict
+    requires first { IsFirstPlan p.now plan.now }
+    requires early { IfSome plan.now (λ s. end_of p.now (entries s) ≤ 1280000) }
+    requires none { plan.now ≡ None → IsSingleMode p.now → NoneIsFeasible p.now }
+    ensures value { (h : ℕ) × IsLongestChain p.now h × IsVerdictOf p.now h plan.now result }
+    ensures claim { Claim p.now result plan.now }
+    ensures text { IsReport (record { verdict = result; best = plan.now; log = None }) }
+{
+    p.known();
+    first_plan();
+    job_tail();
+    judged(p, plan, longest_chain(p))
+}
