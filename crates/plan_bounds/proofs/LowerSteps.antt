@@ -1,10 +1,9 @@
 -- The lower bound, one resource further.
-use Rattle.std.proofs.Common.{◌≡◌, ℕ, zero, suc, ◌+◌, ◌<◌, ◌≤◌, max, min, ◌⊎◌, inl, inr, arith, refl, sym, ap, subst, ◌∙◌, List}
+use Rattle.std.proofs.Common.{◌≡◌, ℕ, ◌+◌, ◌<◌, ◌≤◌, max, inl, inr, arith, refl, ap, subst, List}
 use Rattle.std.specs.Prelude.{Option, Some, None, IsNone, IfSome, unwrap_or, ◌↔◌}
 use Rattle.std.proofs.lemmas.Bool.{cases_eq, cases_lt}
 use Rattle.rcpsp_model.specs.declared.parts.Entry.{Entry}
-use Rattle.rcpsp_model.specs.Project.{Project, IsRenewable, renewables, capacity}
-use Rattle.rcpsp_model.specs.Tree.{IsFront}
+use Rattle.rcpsp_model.specs.Project.{Project, renewables, capacity}
 use Rattle.rcpsp_model.specs.Bounds.{IsTailBound, IsWorkBound, IsLowerBound, LowerValue, tail, work}
 use Rattle.rcpsp_model.proofs.ChildLemmas.{least-one}
 use Rattle.rcpsp_model.specs.Bounds.{HoldsWork}

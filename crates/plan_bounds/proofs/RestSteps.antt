@@ -1,11 +1,10 @@
 -- Sums over the jobs that aren't placed, one job further.
-use Rattle.std.proofs.Common.{◌≡◌, ℕ, zero, suc, ◌+◌, ◌≤◌, ◌<◌, inl, inr, arith, refl, sym, ap, ◌∙◌, subst, List, [], ◌∷◌, Bool, true, false, cond, not, length}
-use Rattle.std.specs.Prelude.{filter, sum_by}
+use Rattle.std.proofs.Common.{◌≡◌, ℕ, zero, suc, ◌+◌, ◌≤◌, inl, inr, arith, sym, ap, ◌∙◌, List, Bool, true, false, cond, not, length}
+use Rattle.std.specs.Prelude.{sum_by}
 use Rattle.sched_base.specs.declared.job_set.JobSet.{JobSet}
 use Rattle.sched_base.specs.JobSet.{member}
 use Rattle.rcpsp_model.specs.declared.parts.Entry.{Entry}
-use Rattle.rcpsp_model.specs.Project.{Project, IsProject, job_count, jobs, numbers_from}
-use Rattle.rcpsp_model.specs.Modes.{least_need, least_work}
+use Rattle.rcpsp_model.specs.Project.{Project, IsProject, job_count, numbers_from}
 use Rattle.rcpsp_model.specs.Tree.{has_job, unplaced, IsFront}
 use Rattle.rcpsp_model.proofs.Lists.{In, total, total-same, sum_by-filter}
 use Rattle.rcpsp_model.proofs.FrontLemmas.{length-front}

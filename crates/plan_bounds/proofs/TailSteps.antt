@@ -5,7 +5,7 @@ use Rattle.std.proofs.lemmas.Bool.{cases_Bool, cases_eq, cases_lt, both_ways}
 use Rattle.std.proofs.lemmas.List.{append-nil}
 use Rattle.std.proofs.lemmas.List.Elements.{All-cons, All-nil, All-head, filter_more}
 use Rattle.rcpsp_model.specs.declared.parts.Entry.{Entry}
-use Rattle.rcpsp_model.specs.Project.{Project, IsJob, IsAcyclic, Before, is_before, job_count}
+use Rattle.rcpsp_model.specs.Project.{Project, IsJob, IsAcyclic, is_before, job_count}
 use Rattle.rcpsp_model.specs.Schedule.{finish, end_of}
 use Rattle.rcpsp_model.specs.Chain.{least_duration, IsChain, IsTail}
 use Rattle.rcpsp_model.specs.Tree.{has_job, IsFront}

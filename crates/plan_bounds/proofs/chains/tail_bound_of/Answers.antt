@@ -1,6 +1,5 @@
-use Rattle.std.proofs.Common.{◌≡◌, ◌+◌, ◌≤◌, max, false, true, arith, sym, ap, ◌∙◌, subst}
+use Rattle.std.proofs.Common.{◌+◌, max, arith, sym, ap, ◌∙◌, subst}
 use Rattle.rcpsp_model.specs.Project.{IsJob}
-use Rattle.rcpsp_model.specs.Tree.{has_job}
 use Rattle.rcpsp_model.proofs.FrontLemmas.{front-of, ready-limit}
 use Rattle.rcpsp_model.proofs.TailLemmas.{has_tail_law}
 use Rattle.plan_bounds.proofs.TailSteps.{TailSoFar, tail-none, tail-placed, tail-open, tail-all}

@@ -1,4 +1,4 @@
-use Rattle.std.proofs.Common.{◌+◌, arith, sym}
+use Rattle.std.proofs.Common.{arith, sym}
 use Rattle.sched_base.specs.JobSet.{member}
 use Rattle.rcpsp_model.specs.Modes.{least_need}
 use Rattle.plan_bounds.proofs.RestSteps.{sum_beside-open, sum_beside-placed}

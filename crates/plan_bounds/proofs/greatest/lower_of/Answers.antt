@@ -1,6 +1,6 @@
 use Rattle.std.proofs.Common.{arith, ap, ◌∙◌, max}
 use Rattle.plan_bounds.proofs.LowerSteps.{lower-none, lower-more, lower-all}
-use Rattle.plan_bounds.proofs.lower.lower_of.Goals as goal
+use Rattle.plan_bounds.proofs.greatest.lower_of.Goals as goal
 
 pub loop-resource-init : goal.loop-resource-init
 loop-resource-init c = lower-none c.args.p.now c.args.front.now c.tail_bound_of-lower.result c.tail_bound_of-lower.ensures
