@@ -10,7 +10,7 @@ use Rattle.rcpsp_model.specs.Schedule.{finish, end_of}
 use Rattle.rcpsp_model.specs.Chain.{least_duration, IsChain, IsTail}
 use Rattle.rcpsp_model.specs.Tree.{has_job, IsFront}
 use Rattle.rcpsp_model.specs.Bounds.{ready, TailValue, front, chain, IsTailBound}
-use Rattle.rcpsp_model.proofs.DominanceLemmas.{IsSound, front-sound}
+use Rattle.rcpsp_model.proofs.Sound.{IsSound, front-sound}
 use Rattle.rcpsp_model.proofs.FrontLemmas.{end-push}
 
 abbrev pub no_entry : Entry

@@ -1,11 +1,8 @@
 -- Children that are appended one after another, and what isn't lost by them.
-use Rattle.std.proofs.Common.{◌≡◌, ℕ, suc, ◌+◌, arith, refl, sym, ap, subst, ◌∙◌, List, [], ◌∷◌, ◌++◌, length, append_assoc, add-one, inl, inr}
-use Rattle.std.specs.Prelude.{map, Contains}
+use Rattle.std.proofs.Common.{◌≡◌, ℕ, ◌+◌, arith, refl, sym, ap, ◌∙◌, List, [], ◌∷◌, ◌++◌, length, append_assoc, add-one, inl, inr}
 use Rattle.std.proofs.lemmas.List.{append-nil}
 use Rattle.rcpsp_model.specs.declared.parts.Child.{Child}
-use Rattle.rcpsp_model.specs.declared.parts.Child.TheVariants.{Placed, Shut}
 use Rattle.rcpsp_model.specs.declared.parts.Entry.{Entry}
-use Rattle.rcpsp_model.specs.declared.parts.Placing.{Placing}
 use Rattle.rcpsp_model.specs.declared.parts.Shut.{Shut as Why}
 use Rattle.rcpsp_model.specs.declared.parts.Shut.TheVariants.{NoCapacity, NoBudget, Inefficient}
 use Rattle.rcpsp_model.specs.Project.{Project, modes_of, IsMode, IsAcyclic}

@@ -7,7 +7,7 @@ use Rattle.std.proofs.lemmas.Bool.{cases_eq, or_cases, or_left, or_right, eqb-tr
 use Rattle.sched_base.specs.declared.job_set.JobSet.{JobSet}
 use Rattle.sched_base.specs.JobSet.{member}
 use Rattle.rcpsp_model.specs.declared.parts.Entry.{Entry}
-use Rattle.rcpsp_model.specs.Project.{Project, IsJob, IsWithinLimits, IsAcyclic, is_before, job_count}
+use Rattle.rcpsp_model.specs.Project.{Project, IsJob, IsWithinLimits, IsAcyclic, is_before}
 use Rattle.rcpsp_model.specs.Schedule.{finish, end_of, IsOf, AreOf, KeepsCapacities}
 use Rattle.rcpsp_model.specs.Tree.{has_job, last_start, IsFront, IsEligible, Follows}
 use Rattle.rcpsp_model.proofs.Lists.{In, In-All}

@@ -1,10 +1,10 @@
 -- A front of all jobs, and its schedule.
 use Rattle.std.proofs.Common.{◌≡◌, ℕ, zero, suc, ◌+◌, ◌-◌, ◌<◌, ◌≤◌, arith, refl, sym, ap, subst, ◌∙◌, inl, inr, List, [], ◌∷◌, ◌++◌, length, get_or, take, set, Bool, true, false, cond, eqb}
-use Rattle.std.proofs.lemmas.Bool.{cases_eq, cases_Bool, both_ways}
+use Rattle.std.proofs.lemmas.Bool.{cases_eq}
 use Rattle.std.proofs.Math.Seq.{take-append_seam}
 use Rattle.std.proofs.lemmas.List.{take_more, length-replicate}
 use Rattle.std.proofs.Common.{replicate}
-use Rattle.std.specs.Prelude.{Contains, All}
+use Rattle.std.specs.Prelude.{Contains}
 use Rattle.std.proofs.lemmas.List.Elements.{Contains-get_or}
 use Rattle.std.proofs.lemmas.Bool.{ne_eqb, eq-eqb}
 use Rattle.rcpsp_model.specs.declared.parts.Entry.{Entry}
@@ -12,13 +12,12 @@ use Rattle.rcpsp_model.specs.declared.parts.Placing.{Placing}
 use Rattle.rcpsp_model.specs.Project.{Project, IsJob, job_count, IsAcyclic}
 use Rattle.rcpsp_model.specs.Schedule.{entries, entries_from, end_of, Agrees}
 use Rattle.rcpsp_model.specs.Tree.{has_job, IsFront, IsLeaf, Completes}
-use Rattle.rcpsp_model.proofs.Lists.{In, In-push, In-from_Contains, Contains-from_In, All-from_In, In-All, total}
+use Rattle.rcpsp_model.proofs.Lists.{In, In-push, In-from_Contains, Contains-from_In, All-from_In, total}
 use Rattle.rcpsp_model.proofs.Entries.{same_entry, entry_at, job-from, job-below}
 use Rattle.rcpsp_model.proofs.Changed.{changed, changed-past, In-changed_other, In-changed_new}
-use Rattle.rcpsp_model.proofs.ExchangeLemmas.{front-distinct, kept-In}
-use Rattle.rcpsp_model.proofs.FrontLemmas.{named-in_turn, part-jobs, each, spot, length-front}
-use Rattle.rcpsp_model.proofs.PlanLemmas.{plan-entries}
-use Rattle.rcpsp_model.proofs.TreeLemmas.{leaf_law, same-placings}
+use Rattle.rcpsp_model.proofs.CompletesLemmas.{front-distinct}
+use Rattle.rcpsp_model.proofs.FrontLemmas.{named-in_turn, part-jobs, each, spot}
+use Rattle.rcpsp_model.proofs.TreeLemmas.{leaf_law}
 
 -- a job of a front is one of the project
 pub front-job : (P : Project) (F : List Entry) → IsFront P F → (e : Entry) → In F e → IsJob P e.job
@@ -137,12 +136,8 @@ pub record IsScheduleOf (P : Project) (F : List Entry) (s : List Placing) : Type
 pub leaf-schedule : (P : Project) (F : List Entry) (s : List Placing) → IsAcyclic P → IsFront P F → IsLeaf P F → length s ≡ job_count P → Agrees s F → IsScheduleOf P F s
 leaf-schedule P F s a f leaf size agrees =
     let law = leaf_law P F a f leaf in
-    let own = law.schedule in
-    let own_size = law.completes.feasible.whole in
-    let sub : (e : Entry) → In F e → In (entries s) e = λ e i. In-from_Contains (entries s) e (In-All (Contains (entries s)) F agrees e i) in
-    let back = plan-entries P F own leaf own_size (kept-In P F own law.completes) in
-    let same : own ≡ s = same-placings 1 own s (own_size ∙ sym size) (λ e i. sub e (back e i)) in
-    subst (IsScheduleOf P F) same (record { completes = law.completes; end = law.end })
+    let is : s ≡ law.0.schedule = law.0.only s size agrees in
+    record { completes = (law.1 s).1 is; end = ap (λ (r : List Placing). end_of P (entries r)) is ∙ law.0.end }
 
 -- an item of a front has a job of the project
 pub item-job : (P : Project) (F : List Entry) (i : ℕ) (d : Entry) → IsFront P F → i < length F → IsJob P (get_or F i d).job

@@ -2,13 +2,12 @@
 use Rattle.std.specs.Prelude.{◌==◌}
 use Rattle.std.proofs.lemmas.Bool.Decides.{nat_tests}
 use Rattle.proof_log.specs.declared.letter.TheConstants.{EXPANDED, LEAF, TAIL_BOUND}
-use Rattle.std.proofs.Common.{◌≡◌, ℕ, arith, ◌∙◌, ◌⊎◌, inl, inr, refl, sym, ap, subst, Bool, true, false, cond, ◌||◌, not, List, [], ◌∷◌, ◌++◌, Option, Some, None, codes, decimal}
-use Rattle.std.specs.Prelude.{IfSome, is_some, option_map, option_to_list}
+use Rattle.std.proofs.Common.{◌≡◌, ℕ, arith, ◌∙◌, ◌⊎◌, inl, inr, refl, sym, ap, subst, Bool, true, false, cond, ◌||◌, not, List, [], ◌∷◌, Option, Some, None, codes}
+use Rattle.std.specs.Prelude.{IfSome, option_map, option_to_list}
 use Rattle.std.specs.Str.{bytes_eq}
-use Rattle.proof_log.specs.declared.line.LogWords.{LogWords}
 use Rattle.proof_log.specs.declared.line.ReportLine.{ReportLine}
-use Rattle.proof_log.specs.declared.line.ReportLine.TheVariants.{Title, Optimal, Infeasible, Limit, Duration, Lower, Job, LogYes, LogNo, Log, End}
-use Rattle.proof_log.specs.Line.{number_word, has_number, is_bare, is_shut, fate_words, log_line_words, line_words, IsNumber, IsPlace, IsLogLine, IsLine}
+use Rattle.proof_log.specs.declared.line.ReportLine.TheVariants.{Title, Optimal, Infeasible, Limit, Duration, Lower, Job, LogYes, LogNo, End}
+use Rattle.proof_log.specs.Line.{number_word, has_number, is_bare, fate_words, log_line_words, line_words, IsNumber, IsPlace, IsLine}
 use Rattle.proof_log.specs.Reading.{number_in, place_in, single_in, verdict_in, log_flag_in, title_in, pair_in, job_in, fate_number_in, letter_in, is_place, fate_in, log_line, placed_in, log_in, four_in, line_in}
 use Rattle.proof_log.proofs.WordLemmas.{chosen, only, mapped, bound, same_word, number_found, place_found}
 

@@ -8,3 +8,5 @@ pub mod AgainLemmas
 pub mod PartLemmas
 pub mod TextLemmas
 pub mod LineReaderLemmas
+pub mod LinesLemmas
+pub mod ReportLemmas

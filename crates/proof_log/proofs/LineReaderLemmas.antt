@@ -1,5 +1,5 @@
 -- The lines that a reader finds are those of the bytes that it was fed.
-use Rattle.std.proofs.Common.{◌≡◌, ℕ, suc, ◌+◌, ◌-◌, ◌<◌, ◌≤◌, ◌∙◌, inl, inr, arith, refl, sym, ap, min, Bool, true, false, cond, not, append_assoc, List, [], ◌∷◌, ◌++◌, length, length-append, length-drop, take, drop, Option, Some, None}
+use Rattle.std.proofs.Common.{◌≡◌, ℕ, suc, ◌+◌, ◌<◌, ◌≤◌, ◌∙◌, inl, inr, arith, refl, sym, ap, min, true, false, not, append_assoc, List, [], ◌∷◌, ◌++◌, length, length-append, length-drop, take, drop}
 use Rattle.std.specs.Prelude.{◌==◌, nat_lt, position, unwrap_or}
 use Rattle.std.specs.List.{position_or_len}
 use Rattle.std.proofs.lemmas.Bool.{cases_lt, cases_Bool}

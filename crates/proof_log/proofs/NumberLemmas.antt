@@ -1,5 +1,5 @@
 -- Reading the digits of a number from the left.
-use Rattle.std.proofs.Common.{◌≡◌, ℕ, ◌+◌, ◌-◌, ◌*◌, ◌^◌, ◌<◌, ◌≤◌, ◌∙◌, arith, refl, sym, ap, Bool, true, false, cond, ◌&&◌, List, [], ◌∷◌, length, drop, get_or, add-one}
+use Rattle.std.proofs.Common.{◌≡◌, ℕ, ◌+◌, ◌-◌, ◌*◌, ◌^◌, ◌<◌, ◌≤◌, ◌∙◌, arith, refl, Bool, true, false, cond, ◌&&◌, List, [], ◌∷◌, length, drop, get_or, add-one}
 use Rattle.std.specs.Prelude.{nat_le, Some, None}
 use Rattle.std.specs.Char.{is_ascii_digit}
 use Rattle.std.specs.Str.{all_ascii_digits}

@@ -1,5 +1,5 @@
 -- Bytes cut at each separator, where the parts have only bytes above it.
-use Rattle.std.proofs.Common.{◌≡◌, ℕ, ◌<◌, ◌≤◌, ◌∙◌, arith, refl, sym, ap, Bool, true, false, cond, ◌&&◌, List, [], ◌∷◌, ◌++◌}
+use Rattle.std.proofs.Common.{◌≡◌, ℕ, ◌≤◌, ◌∙◌, arith, refl, ap, Bool, true, false, ◌&&◌, List, [], ◌∷◌, ◌++◌}
 use Rattle.std.specs.Prelude.{◌==◌, nat_lt}
 use Rattle.std.specs.List.{slice_split, onto_first, list_all, join_with_byte}
 use Rattle.std.proofs.lemmas.Bool.Decides.{nat_tests}

@@ -1,5 +1,5 @@
 -- The text of a line is cut into its words again.
-use Rattle.std.proofs.Common.{◌≡◌, ℕ, ◌^◌, ◌<◌, ◌≤◌, ◌∙◌, ◌⊎◌, inl, inr, arith, refl, sym, ap, Bool, true, false, ◌&&◌, ◌||◌, List, [], ◌∷◌, Option, Some, None, codes, decimal}
+use Rattle.std.proofs.Common.{◌≡◌, ℕ, ◌∙◌, inl, inr, arith, refl, sym, ap, true, ◌||◌, List, [], ◌∷◌, Option, Some, None, codes, decimal}
 use Rattle.std.specs.Prelude.{◌==◌, nat_lt, IfSome}
 use Rattle.std.specs.Char.{is_ascii_digit}
 use Rattle.std.specs.List.{list_all, join_with_byte}
@@ -11,11 +11,11 @@ use Rattle.proof_log.specs.declared.letter.TheConstants.{EXPANDED, LEAF, TAIL_BO
 use Rattle.proof_log.specs.declared.line.LogWords.{LogWords}
 use Rattle.proof_log.specs.declared.line.ReportLine.{ReportLine}
 use Rattle.proof_log.specs.declared.line.ReportLine.TheVariants.{Title, Optimal, Infeasible, Limit, Duration, Lower, Job, LogYes, LogNo, Log, End}
-use Rattle.proof_log.specs.Line.{number_word, has_number, is_bare, fate_words, log_line_words, line_words, line_text, IsNumber, IsPlace, IsLogLine, IsLine}
+use Rattle.proof_log.specs.Line.{number_word, has_number, is_bare, fate_words, log_line_words, line_words, line_text, IsNumber, IsLogLine, IsLine}
 use Rattle.proof_log.specs.Reading.{words_in, line_in}
 use Rattle.proof_log.proofs.WordLemmas.{digits_of_number}
 use Rattle.proof_log.proofs.FoundLemmas.{or_true, letter_is, line_found}
-use Rattle.proof_log.proofs.AgainLemmas.{HasNumbers, place_numbers, line_again}
+use Rattle.proof_log.proofs.AgainLemmas.{place_numbers, line_again}
 use Rattle.proof_log.proofs.PartLemmas.{is_above, parts_true, joined_parts, joined_above}
 
 digits_above : (digits : List ℕ) → all_ascii_digits digits ≡ true → is_above 32 digits ≡ true

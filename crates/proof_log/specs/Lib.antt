@@ -3,3 +3,4 @@ pub mod Report
 pub mod Text
 pub mod Reading
 pub mod Lines
+pub mod Laws

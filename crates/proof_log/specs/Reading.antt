@@ -1,9 +1,8 @@
 -- How a line is read: its bytes are cut at each blank, and the words are judged by their number. What this reads is
 -- exactly the lines of `Line`, as the contract of `parse_line` says.
-use Rattle.std.specs.Prelude.{ℕ, ◌+◌, ◌-◌, ◌*◌, ◌==◌, ◌&&◌, ◌||◌, nat_le, Bool, true, false, not, if◌then◌else◌, Option, Some, None, is_some, option_map, option_and_then, List, [], ◌∷◌, length, codes}
+use Rattle.std.specs.Prelude.{ℕ, ◌+◌, ◌-◌, ◌*◌, ◌==◌, ◌&&◌, ◌||◌, nat_le, Bool, false, not, if◌then◌else◌, Option, Some, None, is_some, option_map, option_and_then, List, [], ◌∷◌, length, codes}
 use Rattle.std.specs.List.{slice_split}
 use Rattle.std.specs.Str.{bytes_eq, all_ascii_digits}
-use Rattle.proof_log.specs.declared.line.LogWords.{LogWords}
 use Rattle.proof_log.specs.declared.line.ReportLine.{ReportLine}
 use Rattle.proof_log.specs.declared.line.ReportLine.TheVariants.{Title, Optimal, Infeasible, Limit, Duration, Lower, Job, LogYes, LogNo, Log, End}
 use Rattle.proof_log.specs.Line.{has_number, is_bare, is_shut}

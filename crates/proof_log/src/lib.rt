@@ -1,6 +1,7 @@
 //! The report of a search: what it says, its text, and the lines of the text.
 #![tactic(auto)]
 
+pub mod laws;
 mod letter;
 mod line;
 mod line_reader;

@@ -18,7 +18,7 @@ use Rattle.rcpsp_model.proofs.Entries.{DistinctJobs, distinct-push}
 use Rattle.rcpsp_model.proofs.Usage.{finish-le-end, end-le, calm_law}
 use Rattle.rcpsp_model.proofs.Successors.{before-job}
 use Rattle.rcpsp_model.proofs.FrontLemmas.{in_turn, keeps-push, end-push, duration-limit, fits-past_end, fits-executable, part-jobs, spot, each}
-use Rattle.rcpsp_model.proofs.DominanceLemmas.{sound-push}
+use Rattle.rcpsp_model.proofs.Sound.{sound-push}
 use Rattle.rcpsp_model.proofs.PlanLemmas.{IsPlan}
 use Rattle.profiles.specs.Placed.{Placed, IsProfileOf}
 use Rattle.profiles.specs.Room.{FitsFrom}
@@ -46,6 +46,7 @@ pub record IsPlacing (P : Project) (F : List Entry) : Type 0 where
 placing-push : (P : Project) → IsAcyclic P → (F : List Entry) (e : Entry) → IsPlacing P F → IsPlacedInTurn P F e → IsPlacing P (F ++ e ∷ [])
 placing-push P a F e p f = record {
   plan = record {
+    jobs = λ x i. elim (In-push F e x i) [ inl j ↦ p.jobs x j | inr q ↦ subst (λ (z : Entry). IsJob P z.job) q f.eligible.job ];
     distinct = distinct-push F e p.plan.distinct f.eligible.unplaced;
     keeps = keeps-push P F e p.plan.keeps f.can_run.fits;
     sound = sound-push P a F e p.plan.sound f.eligible f.can_run.after_preds;
@@ -56,7 +57,7 @@ placing-push P a F e p f = record {
 
 placing-none : (P : Project) → IsPlacing P []
 placing-none P = record {
-  plan = record { distinct = tt; keeps = λ k u r. omega arith; sound = record { closed = λ i j b h. cc; done = λ x y i j b. absurd i }; modes = λ e i. absurd i };
+  plan = record { jobs = λ e i. absurd i; distinct = tt; keeps = λ k u r. omega arith; sound = record { closed = λ i j b h. cc; done = λ x y i j b. absurd i }; modes = λ e i. absurd i };
   jobs = λ e i. absurd i;
 }
 

@@ -15,7 +15,7 @@ use Rattle.rcpsp_model.proofs.Usage.{finish-le-end, end-le}
 use Rattle.rcpsp_model.proofs.FrontLemmas.{in_turn}
 use Rattle.rcpsp_model.proofs.PlanLemmas.{plan-entries, plan_law, no_mode_law}
 use Rattle.rcpsp_model.proofs.OnePlanLemmas.{one_plan_law}
-use Rattle.rcpsp_model.proofs.TreeLemmas.{same-placings}
+use Rattle.rcpsp_model.proofs.Merged.{same-placings}
 use Rattle.serial_scheme.specs.declared.mode_rule.ModeRule.{ModeRule}
 use Rattle.serial_scheme.specs.declared.mode_rule.ModeRule.TheVariants.{Shortest, Cheapest}
 use Rattle.serial_scheme.specs.Rules.{HasMode, SomeHasNoMode}
@@ -67,9 +67,10 @@ plan-facts P project Rule s p =
     let few = length-placing P p.placed (scheduled-placing P project.acyclic Rule p.placed turn) in
     let jobs = project.limits.few_jobs in
     let calm_is = calm-zero P in
+    let law = plan_law P p.placed project.acyclic (in_turn-weaker (IsScheduledNext P Rule) (IsPlacedInTurn P) (as-placed P Rule) [] p.placed turn) p.serial.whole p.budgets in
     let end : end_of P (entries s) ≤ end_of P p.placed = end-le P (entries s) (end_of P p.placed) (λ e i. finish-le-end P p.placed e (in-placed P Rule s p e i)) in
     record {
-      feasible = plan_law P p.placed s project.acyclic (in_turn-weaker (IsScheduledNext P Rule) (IsPlacedInTurn P) (as-placed P Rule) [] p.placed turn) p.serial.whole p.budgets p.jobs p.agrees;
+      feasible = subst (IsFeasible P) (sym (law.0.only s p.jobs p.agrees)) law.1;
       end = omega arith;
       starts = All-from_In (λ (q : Placing). q.start ≤ 999999999) s (λ q i.
           let e = entry-with 1 s q i in let le = finish-le-end P (entries s) e.0 e.1 in let same = e.2 in omega arith);

@@ -1,4 +1,4 @@
-use Rattle.std.proofs.Common.{◌≡◌, subst, Option, ℕ}
+use Rattle.std.proofs.Common.{subst, Option, ℕ}
 use Rattle.std.specs.Prelude.{IfSome}
 use Rattle.rcpsp_model.specs.Chain.{IsLeast}
 use Rattle.rcpsp_model.specs.Tree.{CanStart}

@@ -1,4 +1,4 @@
-use Rattle.std.proofs.Common.{◌≡◌, ◌∙◌, ◌++◌, ℕ, List, Vec, Global, [], sym, ap, map, drop, flat_map}
+use Rattle.std.proofs.Common.{◌∙◌, ◌++◌, ℕ, List, Vec, Global, sym, ap, map, flat_map}
 use Rattle.std.proofs.lemmas.List.{append-nil, drop_all}
 use Rattle.proof_log.specs.Lines.{lines_left}
 use Rattle.proof_log.proofs.LineReaderLemmas.{nothing_found}

@@ -1,4 +1,4 @@
-use Rattle.std.proofs.Common.{◌≡◌, ◌++◌, ℕ, List, map, drop, flat_map}
+use Rattle.std.proofs.Common.{◌≡◌, ◌++◌, map, drop, flat_map}
 use Rattle.proof_log.specs.Lines.{lines_left, lines_in}
 use Rattle.proof_log.proofs.lines.lines_of.Given as goal
 

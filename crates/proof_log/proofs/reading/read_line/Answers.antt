@@ -1,4 +1,3 @@
-use Rattle.proof_log.specs.Reading.{line_in, words_in}
 use Rattle.proof_log.proofs.SplitLemmas.{no_sixth}
 use Rattle.proof_log.proofs.reading.read_line.Goals as goal
 

@@ -1,4 +1,4 @@
-use Rattle.std.proofs.Common.{◌∙◌, sym}
+use Rattle.std.proofs.Common.{sym}
 use Rattle.proof_log.proofs.SplitLemmas.{one_word, first_word}
 use Rattle.proof_log.proofs.reading.split_word.Goals as goal
 

@@ -1,9 +1,8 @@
-use Rattle.std.proofs.Common.{◌≡◌, ℕ, ◌≤◌, arith, sym, ap, subst, ◌∙◌, List}
+use Rattle.std.proofs.Common.{◌≡◌, ℕ, sym, ap, subst, ◌∙◌, List}
 use Rattle.std.specs.Prelude.{IfSome}
 use Rattle.rcpsp_model.specs.declared.parts.Entry.{Entry}
 use Rattle.rcpsp_model.specs.Schedule.{AreOf}
 use Rattle.rcpsp_model.specs.Chain.{IsLeast}
-use Rattle.rcpsp_model.specs.Tree.{Fits}
 use Rattle.rcpsp_model.specs.Bounds.{ready}
 use Rattle.rcpsp_model.proofs.FrontLemmas.{front-of, can_start-from}
 use Rattle.profiles.specs.Room.{FitsFrom}

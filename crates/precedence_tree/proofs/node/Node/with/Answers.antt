@@ -1,7 +1,7 @@
-use Rattle.std.proofs.Common.{◌≡◌, max, arith, sym, ap, subst, ◌∙◌, List, [], ◌∷◌, ◌++◌}
+use Rattle.std.proofs.Common.{◌≡◌, max, arith, ap, subst, ◌∙◌, List, [], ◌∷◌, ◌++◌}
 use Rattle.std.proofs.lemmas.Bool.Decides.{nat_tests}
 use Rattle.rcpsp_model.specs.declared.parts.Entry.{Entry}
-use Rattle.rcpsp_model.specs.Schedule.{finish, end_of}
+use Rattle.rcpsp_model.specs.Schedule.{finish}
 use Rattle.rcpsp_model.specs.Tree.{entry_at}
 use Rattle.precedence_tree.specs.Node.{NodeState, HasJobs}
 use Rattle.precedence_tree.proofs.Fronts.{follows-of, front-profile, has_jobs-push, stands-push}
