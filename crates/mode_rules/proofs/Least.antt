@@ -1,5 +1,5 @@
 -- The least over the first modes of a job, one mode further.
-use Rattle.std.proofs.Common.{◌≡◌, ℕ, zero, suc, ◌+◌, ◌-◌, ◌*◌, ◌<◌, ◌≤◌, min, arith, refl, ap, ◌∙◌, List, [], ◌∷◌, ◌++◌, length, get_or, take, length-take}
+use Rattle.std.proofs.Common.{◌≡◌, ℕ, ◌+◌, ◌-◌, ◌*◌, ◌<◌, ◌≤◌, min, arith, refl, ap, ◌∙◌, List, [], ◌∷◌, ◌++◌, length, get_or, take, length-take}
 use Rattle.std.specs.Prelude.{slice_index}
 use Rattle.std.proofs.lemmas.List.{take_more, take_all}
 use Rattle.rcpsp_model.specs.declared.parts.Mode.{Mode}

@@ -94,7 +94,7 @@ impl Node {
     }
 
     /// The entries in the order of placing.
-    pub(crate) fn entries(&self) -> &[Entry]
+    pub fn entries(&self) -> &[Entry]
         ensures value { result.now ≡ self.now.front }
         ensures few { length self.now.front ≤ 128 }
     {
@@ -102,7 +102,7 @@ impl Node {
     }
 
     /// The jobs that are placed.
-    pub(crate) fn placed(&self) -> JobSet
+    pub fn placed(&self) -> JobSet
         ensures { (i : ℕ) → 1 ≤ i → member result i ≡ has_job self.now.front i }
     {
         self.placed

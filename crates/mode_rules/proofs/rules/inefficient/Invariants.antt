@@ -1,4 +1,4 @@
-use Rattle.std.proofs.Common.{ℕ, ◌≤◌, ◌<◌}
+use Rattle.std.proofs.Common.{ℕ, ◌<◌}
 use Rattle.rcpsp_model.specs.Modes.{IsInefficientBy}
 use Rattle.mode_rules.proofs.rules.inefficient.Given as goal
 

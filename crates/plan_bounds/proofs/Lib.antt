@@ -1,0 +1,5 @@
+pub mod RestSteps
+pub mod TailSteps
+pub mod WorkSteps
+pub mod LowerSteps
+pub mod NodeBounds

@@ -1,0 +1,5 @@
+use Rattle.plan_bounds.proofs.LowerSteps.{LowerSoFar}
+use Rattle.plan_bounds.proofs.greatest.lower_of.Given as goal
+
+abbrev pub invariant-loop-resource : goal.invariant-loop-resource
+invariant-loop-resource l = LowerSoFar l.p l.front l.resource l.lower
