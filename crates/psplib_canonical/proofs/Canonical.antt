@@ -1,12 +1,11 @@
 -- The canonical text of a project is read, and gives the project.
-use Rattle.std.proofs.Common.{◌≡◌, ℕ, ◌*◌, ◌≤◌, List, [], ◌∷◌, ◌++◌, length, sym, subst, arith}
-use Rattle.psplib_lex.specs.declared.lexer.TheConstants.{MOST_BYTES}
-use Rattle.psplib_lex.specs.Line.{Line, lines_of}
+use Rattle.std.proofs.Common.{◌≡◌, ℕ, List, sym, subst, arith}
+use Rattle.psplib_lex.specs.Line.{Line}
 use Rattle.psplib_layout.specs.Layout.{ReadsLayout}
 use Rattle.psplib_layout.specs.Text.{HasContent, Reads}
 use Rattle.psplib_layout.proofs.TextLemmas.{one_project}
 use Rattle.rcpsp_model.specs.Project.{Project, IsWithinLimits, IsProject}
-use Rattle.project_net.specs.Canonical.{canonical, canonical_lines, text_of}
+use Rattle.project_net.specs.Canonical.{canonical, canonical_lines}
 use Rattle.psplib_canonical.proofs.Kept.{lines_of-text_of, length-text_of}
 use Rattle.psplib_canonical.proofs.ContentOf.{content_of, described}
 use Rattle.psplib_canonical.proofs.Parts.{reads_layout}

@@ -1,10 +1,10 @@
 -- The content of a project's text, and that it describes the project.
-use Rattle.std.proofs.Common.{◌≡◌, ℕ, zero, suc, ◌+◌, ◌-◌, ◌≤◌, ◌<◌, List, [], ◌∷◌, ◌++◌, length, map, filter, refl, sym, ap, ◌∙◌, arith, Bool, true, false, cond}
+use Rattle.std.proofs.Common.{◌≡◌, ℕ, zero, suc, ◌+◌, ◌≤◌, ◌<◌, List, [], ◌∷◌, length, map, filter, refl, sym, ap, ◌∙◌, arith, Bool, true, false, cond}
 use Rattle.std.specs.Prelude.{All, sum_by}
 use Rattle.std.specs.List.{AllByRecursion}
 use Rattle.std.proofs.lemmas.List.Elements.{All-head, All-tail, All-weaker, recursion_from_All}
 use Rattle.std.proofs.lemmas.List.Sums.{sum_by-cons}
-use Rattle.rcpsp_model.specs.Project.{Project, Activity, IsActivityWithinLimits, IsModeWithinLimits, IsWithinLimits, IsAscending, job_count, numbers_from}
+use Rattle.rcpsp_model.specs.Project.{Project, Activity, IsActivityWithinLimits, IsModeWithinLimits, IsWithinLimits, job_count, numbers_from}
 use Rattle.rcpsp_model.specs.declared.parts.Mode.{Mode}
 use Rattle.project_net.specs.Draft.{has}
 use Rattle.project_net.proofs.Listed.{ascending-found}

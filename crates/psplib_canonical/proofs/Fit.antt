@@ -1,5 +1,5 @@
 -- Each line of a canonical text can be written, and there are few enough of them.
-use Rattle.std.proofs.Common.{◌≡◌, ℕ, zero, suc, ◌+◌, ◌-◌, ◌*◌, ◌^◌, ◌≤◌, ◌<◌, Bool, true, false, cond, not, ◌&&◌, eqb, List, [], ◌∷◌, ◌++◌, length, map, replicate, codes, refl, sym, ap, subst, ◌∙◌, arith, append_assoc, length-append}
+use Rattle.std.proofs.Common.{◌≡◌, ℕ, zero, suc, ◌+◌, ◌-◌, ◌*◌, ◌^◌, ◌≤◌, ◌<◌, Bool, true, false, cond, not, eqb, List, [], ◌∷◌, ◌++◌, length, map, replicate, codes, refl, ◌∙◌, arith, length-append}
 use Rattle.std.specs.Prelude.{All, sum_by, max}
 use Rattle.std.specs.List.{AllByRecursion, list_all, flat_map, fold}
 use Rattle.std.specs.Fmt.{decimal}

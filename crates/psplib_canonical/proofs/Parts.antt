@@ -1,6 +1,5 @@
 -- The three parts of a canonical text, and the layout as a whole.
-use Rattle.std.proofs.Common.{◌≡◌, ℕ, zero, suc, ◌+◌, ◌-◌, ◌^◌, ◌≤◌, ◌<◌, Bool, true, false, cond, eqb, List, [], ◌∷◌, ◌++◌, length, map, codes, refl, sym, ap, subst, ◌∙◌, arith, append_assoc, length-append}
-use Rattle.std.specs.Prelude.{All}
+use Rattle.std.proofs.Common.{◌≡◌, ℕ, zero, suc, ◌+◌, ◌≤◌, Bool, true, false, cond, eqb, List, [], ◌∷◌, ◌++◌, length, map, codes, refl, sym, ap, subst, ◌∙◌, arith, append_assoc, length-append}
 use Rattle.std.specs.List.{concat, list_all, flat_map}
 use Rattle.std.specs.Fmt.{decimal}
 use Rattle.std.proofs.lemmas.Bool.{and_from}
@@ -13,12 +12,12 @@ use Rattle.psplib_layout.specs.Header.{HasTitle}
 use Rattle.psplib_layout.specs.Part.{HasPart}
 use Rattle.psplib_layout.specs.Precedence.{rows_numbers}
 use Rattle.psplib_layout.specs.Requests.{all_modes_numbers}
-use Rattle.psplib_layout.specs.Layout.{ReadsPrecedence, ReadsRequests, ReadsAvailabilities, ReadsLayout, ListsAmounts, HasAmounts, has_no_resource}
-use Rattle.rcpsp_model.specs.Project.{Project, IsWithinLimits, job_count, jobs, renewables, nonrenewables, numbers_from}
+use Rattle.psplib_layout.specs.Layout.{ReadsPrecedence, ReadsRequests, ReadsAvailabilities, ReadsLayout, HasAmounts}
+use Rattle.rcpsp_model.specs.Project.{Project, IsWithinLimits, jobs, renewables, nonrenewables, numbers_from}
 use Rattle.project_net.specs.Canonical.{spaced, row, precedence_row, labels, all_labels, all_mode_lines, stars, hyphens, title_lines, resource_lines, information_lines, precedence_lines, requests_lines, amount_lines, availability_lines, canonical_lines}
 use Rattle.psplib_canonical.proofs.Words.{is_word, words_of-spaced, decimal-word}
 use Rattle.psplib_canonical.proofs.Kept.{keep, kept, kept-none, step, skip}
-use Rattle.psplib_canonical.proofs.Rows.{IsSmall, IsRow, AreLines, no_lines, row_line, part_of, keeps, small-append}
+use Rattle.psplib_canonical.proofs.Rows.{IsRow, AreLines, no_lines, row_line, part_of, keeps, small-append}
 use Rattle.psplib_canonical.proofs.ContentOf.{header_of, amounts_of, rows_of, modes_of_all, content_of, rows_limits, modes_limits, amounts_limits}
 use Rattle.psplib_canonical.proofs.PartRows.{precedence_rows, requests_rows, small_all}
 use Rattle.psplib_canonical.proofs.HeaderLines.{counts_line, behind_header, reads_header}

@@ -1,5 +1,5 @@
 -- Lines of numbers: they are kept, can be written, and spell the numbers.
-use Rattle.std.proofs.Common.{◌≡◌, ℕ, suc, ◌+◌, ◌*◌, ◌^◌, ◌≤◌, ◌<◌, Bool, true, false, not, ◌&&◌, ◌||◌, leb, eqb, List, [], ◌∷◌, ◌++◌, length, map, Some, refl, sym, ap, subst, ◌∙◌, arith, length-append}
+use Rattle.std.proofs.Common.{◌≡◌, ℕ, suc, ◌+◌, ◌*◌, ◌^◌, ◌≤◌, ◌<◌, Bool, true, false, not, ◌||◌, leb, List, [], ◌∷◌, ◌++◌, length, map, Some, refl, sym, ap, subst, ◌∙◌, arith, length-append}
 use Rattle.std.specs.List.{AllByRecursion, list_all}
 use Rattle.std.specs.Fmt.{decimal}
 use Rattle.std.proofs.lemmas.Bool.{and_parts, and_from, le-leb}
@@ -13,7 +13,7 @@ use Rattle.psplib_lex.specs.Number.{number_of}
 use Rattle.psplib_layout.specs.Part.{words_in, Spells, HasPart}
 use Rattle.project_net.specs.Canonical.{spaced, row, stars}
 use Rattle.psplib_canonical.proofs.Words.{is_plain, is_word, words_of-spaced, number_of-decimal, decimal-word, Begins, decimal-begins}
-use Rattle.psplib_canonical.proofs.Kept.{is_whole, is_fit, keep, kept, step, skip, steps}
+use Rattle.psplib_canonical.proofs.Kept.{is_whole, is_fit, keep, kept, skip, steps}
 
 -- ---- words in a line
 
