@@ -1,8 +1,7 @@
 -- Ascending numbers, found one by one.
-use Rattle.std.proofs.Common.{◌≡◌, ℕ, zero, suc, ◌+◌, ◌-◌, ◌<◌, ◌≤◌, inl, inr, arith, refl, sym, ap, subst, ◌∙◌, List, [], ◌∷◌, ◌++◌, length, map, get_or, filter, Bool, true, false, cond, eqb, ◌||◌, append_assoc}
+use Rattle.std.proofs.Common.{◌≡◌, ℕ, zero, suc, ◌+◌, ◌-◌, ◌<◌, ◌≤◌, inl, inr, arith, refl, sym, ap, subst, ◌∙◌, List, [], ◌∷◌, ◌++◌, length, map, get_or, filter, Bool, true, false, cond, ◌||◌, append_assoc}
 use Rattle.std.specs.Prelude.{All}
 use Rattle.std.specs.Fmt.{decimal}
-use Rattle.std.specs.List.{list_any}
 use Rattle.std.proofs.lemmas.Bool.{cases_eq, eq-eqb, ne_eqb}
 use Rattle.std.proofs.lemmas.List.{append-nil, map-append}
 use Rattle.std.proofs.lemmas.List.Elements.{All-nil, All-cons, All-head, All-tail, All-weaker, filter-append}
@@ -12,7 +11,7 @@ use Rattle.project_net.specs.Draft.{has}
 use Rattle.project_net.specs.Printing.{appended, set_off}
 use Rattle.project_net.proofs.Limits.{activity-limits}
 use Rattle.project_net.proofs.Ranges.{has-below}
-use Rattle.project_net.proofs.Appended.{numbers-more, appended-more, appended-append, appended-one}
+use Rattle.project_net.proofs.Appended.{numbers-more, appended-more}
 
 filter-same : (p q : ℕ → Bool) (a n : ℕ) → ((s : ℕ) → a ≤ s → p s ≡ q s) → filter p (numbers_from a n) ≡ filter q (numbers_from a n)
 filter-same p q a zero same = refl

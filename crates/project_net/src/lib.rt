@@ -5,6 +5,7 @@ mod appending;
 mod chains;
 mod draft;
 mod flatten;
+mod horizon;
 mod mode_table;
 mod network;
 mod order;

@@ -1,0 +1,9 @@
+pub mod Words
+pub mod Kept
+pub mod Rows
+pub mod ContentOf
+pub mod PartRows
+pub mod HeaderLines
+pub mod Parts
+pub mod Fit
+pub mod Canonical

@@ -1,0 +1,233 @@
+-- The three parts of a canonical text, and the layout as a whole.
+use Rattle.std.proofs.Common.{◌≡◌, ℕ, zero, suc, ◌+◌, ◌≤◌, Bool, true, false, cond, eqb, List, [], ◌∷◌, ◌++◌, length, map, codes, refl, sym, ap, subst, ◌∙◌, arith, append_assoc, length-append}
+use Rattle.std.specs.List.{concat, list_all, flat_map}
+use Rattle.std.specs.Fmt.{decimal}
+use Rattle.std.proofs.lemmas.Bool.{and_from}
+use Rattle.std.proofs.lemmas.List.{append-nil}
+use Rattle.std.proofs.lemmas.List.Elements.{recursion_from_All}
+use Rattle.std.proofs.lemmas.List.Folds.{list_all-append}
+use Rattle.psplib_lex.specs.Line.{Line, words_of, line_from}
+use Rattle.psplib_layout.specs.Title.{begins_with}
+use Rattle.psplib_layout.specs.Header.{HasTitle}
+use Rattle.psplib_layout.specs.Part.{HasPart}
+use Rattle.psplib_layout.specs.Precedence.{rows_numbers}
+use Rattle.psplib_layout.specs.Requests.{all_modes_numbers}
+use Rattle.psplib_layout.specs.Layout.{ReadsPrecedence, ReadsRequests, ReadsAvailabilities, ReadsLayout, HasAmounts}
+use Rattle.rcpsp_model.specs.Project.{Project, IsWithinLimits, jobs, renewables, nonrenewables, numbers_from}
+use Rattle.project_net.specs.Canonical.{spaced, row, precedence_row, labels, all_labels, all_mode_lines, stars, hyphens, title_lines, resource_lines, information_lines, precedence_lines, requests_lines, amount_lines, availability_lines, canonical_lines}
+use Rattle.psplib_canonical.proofs.Words.{is_word, words_of-spaced, decimal-word}
+use Rattle.psplib_canonical.proofs.Kept.{keep, kept, kept-none, step, skip}
+use Rattle.psplib_canonical.proofs.Rows.{IsRow, AreLines, no_lines, row_line, part_of, keeps, small-append}
+use Rattle.psplib_canonical.proofs.ContentOf.{header_of, amounts_of, rows_of, modes_of_all, content_of, rows_limits, modes_limits, amounts_limits}
+use Rattle.psplib_canonical.proofs.PartRows.{precedence_rows, requests_rows, small_all}
+use Rattle.psplib_canonical.proofs.HeaderLines.{counts_line, behind_header, reads_header}
+
+stars_rule : keep stars ≡ false
+unfolding stars words_of
+stars_rule = refl
+
+hyphens_rule : keep hyphens ≡ false
+unfolding hyphens words_of
+hyphens_rule = refl
+
+-- ---- the precedence part
+
+precedence_kept : keep (codes "PRECEDENCE RELATIONS:") ≡ true
+unfolding words_of
+precedence_kept = refl
+
+precedence_heading_kept : keep (codes "jobnr.    #modes  #successors   successors") ≡ true
+unfolding words_of
+precedence_heading_kept = refl
+
+precedence_title : HasTitle (codes "PRECEDENCERELATIONS:") (line_from 17 (codes "PRECEDENCE RELATIONS:"))
+unfolding words_of
+precedence_title = refl
+
+columns_other : begins_with (codes "PRECEDENCERELATIONS:") (concat (words_of (codes "pronr.  #jobs rel.date duedate tardcost  MPM-Time"))) ≡ false
+unfolding words_of
+columns_other = refl
+
+counts_other : (P : Project) → begins_with (codes "PRECEDENCERELATIONS:") (concat (words_of (counts_line P))) ≡ false
+unfolding words_of
+counts_other P = refl
+
+module _ (P : Project) (limits : IsWithinLimits P) where
+  abbrev rows : List (List ℕ)
+  rows = map (λ j. row (precedence_row P j)) (jobs P)
+
+  -- the line behind the precedence part
+  abbrev behind_rows : ℕ
+  behind_rows = 19 + length rows + 1
+
+  precedence_are : (rest : List (List ℕ)) → kept 17 (precedence_lines P ++ rest) ≡ line_from 17 (codes "PRECEDENCE RELATIONS:") ∷ line_from 18 (codes "jobnr.    #modes  #successors   successors") ∷ kept 19 (rows ++ stars ∷ rest)
+  unfolding precedence_lines
+  precedence_are rest =
+      step 17 _ _ _ precedence_kept
+      (step 18 _ _ _ precedence_heading_kept (ap (kept 19) (append_assoc rows (stars ∷ []) rest)))
+
+  reads_precedence : (rest : List (List ℕ)) → ReadsPrecedence (header_of P) (behind_header P (precedence_lines P ++ rest)) (rows_of P.activities) (kept behind_rows rest)
+  reads_precedence rest = record {
+    unread = line_from 14 (codes "pronr.  #jobs rel.date duedate tardcost  MPM-Time") ∷ line_from 15 (counts_line P) ∷ [];
+    title = line_from 17 (codes "PRECEDENCE RELATIONS:");
+    heading = line_from 18 (codes "jobnr.    #modes  #successors   successors");
+    behind = kept 19 (rows ++ stars ∷ rest);
+    lines_are = ap (λ (ls : List Line). line_from 14 (codes "pronr.  #jobs rel.date duedate tardcost  MPM-Time") ∷ line_from 15 (counts_line P) ∷ ls) (precedence_are rest);
+    first = (columns_other, (counts_other P, tt));
+    title_is = precedence_title;
+    part = part_of 19 rows rest (rows_numbers 1 (rows_of P.activities)) (precedence_rows P limits);
+    limits = rows_limits P limits;
+  }
+
+-- ---- the requests part
+
+requests_kept : keep (codes "REQUESTS/DURATIONS:") ≡ true
+unfolding words_of
+requests_kept = refl
+
+requests_title : (n : ℕ) → HasTitle (codes "REQUESTS/DURATIONS:") (line_from n (codes "REQUESTS/DURATIONS:"))
+unfolding words_of
+requests_title n = refl
+
+abbrev pub requests_heading : Project → List ℕ
+requests_heading P = spaced (codes "jobnr." ∷ codes "mode" ∷ codes "duration" ∷ all_labels P)
+
+requests_heading_kept : (P : Project) → keep (requests_heading P) ≡ true
+unfolding words_of
+requests_heading_kept P = refl
+
+module _ (P : Project) (limits : IsWithinLimits P) (n : ℕ) where
+  abbrev mode_rows : List (List ℕ)
+  mode_rows = all_mode_lines P (jobs P)
+
+  abbrev behind_modes : ℕ
+  behind_modes = n + 1 + 1 + 1 + length mode_rows + 1
+
+  requests_are : (rest : List (List ℕ)) → kept n (requests_lines P ++ rest) ≡ line_from n (codes "REQUESTS/DURATIONS:") ∷ line_from (n + 1) (requests_heading P) ∷ kept (n + 1 + 1 + 1) (mode_rows ++ stars ∷ rest)
+  unfolding requests_lines
+  requests_are rest =
+      step n _ _ _ requests_kept
+      (step (n + 1) _ _ _ (requests_heading_kept P)
+      (skip (n + 1 + 1) _ _ _ hyphens_rule (ap (kept (n + 1 + 1 + 1)) (append_assoc mode_rows (stars ∷ []) rest))))
+
+  reads_requests : (rest : List (List ℕ)) → ReadsRequests (header_of P) (rows_of P.activities) (kept n (requests_lines P ++ rest)) (modes_of_all P.activities) (kept behind_modes rest)
+  reads_requests rest = record {
+    title = line_from n (codes "REQUESTS/DURATIONS:");
+    heading = line_from (n + 1) (requests_heading P);
+    behind = kept (n + 1 + 1 + 1) (mode_rows ++ stars ∷ rest);
+    lines_are = requests_are rest;
+    title_is = requests_title n;
+    part = part_of (n + 1 + 1 + 1) mode_rows rest (all_modes_numbers 1 (modes_of_all P.activities)) (requests_rows P limits);
+    limits = modes_limits P limits;
+  }
+
+-- ---- the availabilities part
+
+availability_kept : keep (codes "RESOURCEAVAILABILITIES:") ≡ true
+unfolding words_of
+availability_kept = refl
+
+availability_title : (n : ℕ) → HasTitle (codes "RESOURCEAVAILABILITIES:") (line_from n (codes "RESOURCEAVAILABILITIES:"))
+unfolding words_of
+availability_title n = refl
+
+numbers_words : (letter : List ℕ) (i n : ℕ) → is_word letter ≡ true → i + n ≤ 1000 → list_all is_word (flat_map (λ k. letter ∷ decimal k ∷ []) (numbers_from i n)) ≡ true
+numbers_words letter i zero h few = refl
+numbers_words letter i (suc n) h few =
+    let rest = flat_map (λ k. letter ∷ decimal k ∷ []) (numbers_from (i + 1) n) in
+    and_from (is_word letter) (list_all is_word (decimal i ∷ rest)) h
+    (and_from (is_word (decimal i)) (list_all is_word rest) (decimal-word i (omega arith)) (numbers_words letter (i + 1) n h (omega arith)))
+
+pub labels_words : (P : Project) → IsWithinLimits P → list_all is_word (all_labels P) ≡ true
+labels_words P w =
+    let R = w.few_renewables in let N = w.few_nonrenewables in
+    list_all-append is_word (labels (codes "R") (renewables P)) (labels (codes "N") (nonrenewables P))
+    ∙ and_from (list_all is_word (labels (codes "R") (renewables P))) (list_all is_word (labels (codes "N") (nonrenewables P)))
+    (numbers_words (codes "R") 1 (renewables P) refl (omega arith)) (numbers_words (codes "N") 1 (nonrenewables P) refl (omega arith))
+
+-- where there is a resource the labels are no rule
+labels_keep : (r n : ℕ) → 1 ≤ r + n → keeps (labels (codes "R") r ++ labels (codes "N") n) ≡ true
+labels_keep zero zero h = absurd (omega arith)
+labels_keep zero (suc n) h = refl
+labels_keep (suc r) n h = refl
+
+module _ (P : Project) (limits : IsWithinLimits P) (n : ℕ) where
+  labels_kept : 1 ≤ renewables P + nonrenewables P → keep (spaced (all_labels P)) ≡ true
+  labels_kept some = ap keeps (words_of-spaced (all_labels P) (labels_words P limits)) ∙ labels_keep (renewables P) (nonrenewables P) some
+
+  amounts_row : 1 ≤ renewables P + nonrenewables P → IsRow (P.capacities ++ P.budgets)
+  amounts_row some =
+      let R = limits.few_renewables in let N = limits.few_nonrenewables in
+      let both : length (P.capacities ++ P.budgets) ≡ renewables P + nonrenewables P = length-append P.capacities P.budgets in
+      record {
+        some = omega arith;
+        few = omega arith;
+        small = small-append P.capacities P.budgets
+            (small_all 1000000 P.capacities (omega arith) (recursion_from_All (λ (c : ℕ). c ≤ 1000000) P.capacities limits.capacities))
+            (small_all 1000000 P.budgets (omega arith) (recursion_from_All (λ (b : ℕ). b ≤ 1000000) P.budgets limits.budgets));
+      }
+
+  pub amounts_line : 1 ≤ renewables P + nonrenewables P → AreLines (row (P.capacities ++ P.budgets) ∷ []) (P.capacities ++ P.budgets)
+  amounts_line some =
+      subst (λ (ns : List ℕ). AreLines (row (P.capacities ++ P.budgets) ∷ []) ns) (append-nil (P.capacities ++ P.budgets)) (row_line (P.capacities ++ P.budgets) [] [] (amounts_row some) no_lines)
+
+  -- the lines behind the title
+  abbrev behind_title : Bool → List (List ℕ)
+  behind_title none = cond none [] (spaced (all_labels P) ∷ row (P.capacities ++ P.budgets) ∷ []) ++ stars ∷ [] ∷ []
+
+  ended : (m : ℕ) → kept m (stars ∷ [] ∷ []) ≡ []
+  ended m = skip m _ _ _ stars_rule (kept-none (m + 1))
+
+  listed : (none : Bool) → eqb (renewables P + nonrenewables P) 0 ≡ none → HasAmounts none (kept (n + 1) (behind_title none)) (amounts_of P) []
+  listed true e = ended (n + 1)
+  listed false e =
+      let some : 1 ≤ renewables P + nonrenewables P = some_of (renewables P + nonrenewables P) e in
+      let part = part_of (n + 1 + 1) (row (P.capacities ++ P.budgets) ∷ []) ([] ∷ []) (P.capacities ++ P.budgets) (amounts_line some) in
+      record {
+        heading = line_from (n + 1) (spaced (all_labels P));
+        behind = kept (n + 1 + 1) (row (P.capacities ++ P.budgets) ∷ stars ∷ [] ∷ []);
+        lines_are = step (n + 1) _ _ _ (labels_kept some) refl;
+        part = subst (λ (ls : List Line). HasPart (P.capacities ++ P.budgets) (kept (n + 1 + 1) (row (P.capacities ++ P.budgets) ∷ stars ∷ [] ∷ [])) ls) (kept-none (n + 1 + 1 + 1 + 1)) part;
+      }
+    where
+      some_of : (k : ℕ) → eqb k 0 ≡ false → 1 ≤ k
+      some_of zero h = absurd cc
+      some_of (suc k) h = omega arith
+
+  availability_are : kept n (availability_lines P ++ [] ∷ []) ≡ line_from n (codes "RESOURCEAVAILABILITIES:") ∷ kept (n + 1) (behind_title (eqb (renewables P + nonrenewables P) 0))
+  unfolding availability_lines amount_lines
+  availability_are =
+      step n _ _ _ availability_kept
+      (ap (kept (n + 1)) (append_assoc (cond (eqb (renewables P + nonrenewables P) 0) [] (spaced (all_labels P) ∷ row (P.capacities ++ P.budgets) ∷ [])) (stars ∷ []) ([] ∷ [])))
+
+  reads_availabilities : ReadsAvailabilities (header_of P) (kept n (availability_lines P ++ [] ∷ [])) (amounts_of P) []
+  reads_availabilities = record {
+    title = line_from n (codes "RESOURCEAVAILABILITIES:");
+    behind = kept (n + 1) (behind_title (eqb (renewables P + nonrenewables P) 0));
+    lines_are = availability_are;
+    title_is = availability_title n;
+    listed = listed (eqb (renewables P + nonrenewables P) 0) refl;
+    limits = amounts_limits P limits;
+  }
+
+-- ---- the whole layout
+
+regroup : (a b c d e f g : List (List ℕ)) → (a ++ (b ++ (c ++ (d ++ (e ++ f))))) ++ g ≡ a ++ (b ++ (c ++ (d ++ (e ++ (f ++ g)))))
+regroup a b c d e f g = simp append_assoc
+
+pub reads_layout : (P : Project) → IsWithinLimits P → ReadsLayout (kept 1 (canonical_lines P ++ [] ∷ [])) (content_of P)
+unfolding canonical_lines
+reads_layout P w =
+    let behind : List (List ℕ) = availability_lines P ++ [] ∷ [] in
+    let m : ℕ = behind_rows P w in
+    let k : ℕ = behind_modes P w m in
+    let whole = regroup (title_lines P) (resource_lines P) (information_lines P) (precedence_lines P) (requests_lines P) (availability_lines P) ([] ∷ []) in
+    subst (λ (ls : List (List ℕ)). ReadsLayout (kept 1 ls) (content_of P)) (sym whole) (record {
+      behind_header = behind_header P (precedence_lines P ++ (requests_lines P ++ behind));
+      behind_precedence = kept m (requests_lines P ++ behind);
+      behind_requests = kept k behind;
+      header = reads_header P w (precedence_lines P ++ (requests_lines P ++ behind));
+      precedence = reads_precedence P w (requests_lines P ++ behind);
+      requests = reads_requests P w m behind;
+      availabilities = reads_availabilities P w k;
+    })
