@@ -23,9 +23,9 @@ long_front text most more long = let n = length-take most text in omega arith
 
 pub front_solution : (text : List ℕ) (most : ℕ) (solution : Solution) → MOST_BYTES < most → IsSolutionOf (take most text) solution → IsSolutionOf text solution
 front_solution text most solution more is = elim (cases_lt MOST_BYTES (length text)) [
-    | inl long ↦ of_long solution is (long_front text most more long) long
-    | inr short ↦ subst (λ bytes. IsSolutionOf bytes solution) (take_all most text (omega arith)) is
-  ]
+  | inl long ↦ of_long solution is (long_front text most more long) long
+  | inr short ↦ subst (λ bytes. IsSolutionOf bytes solution) (take_all most text (omega arith)) is
+]
   where
     of_long : (solution : Solution) → IsSolutionOf (take most text) solution → MOST_BYTES < length (take most text) → MOST_BYTES < length text → IsSolutionOf text solution
     of_long (Solved report) is front long = let few = is.1.has_content.few_bytes in absurd (omega arith)

@@ -14,11 +14,7 @@ pub const MOST_READ: usize = 4_194_305;
 const PIECE: usize = 65_536;
 
 /// Appends what one read gives to the text, and says how many bytes that were.
-fn append_read<S: Shelf>(
-    shelf: &mut S,
-    piece: &mut [u8],
-    text: &mut Vec<u8>,
-) -> Result<usize, Stop>
+fn append_read<S: Shelf>(shelf: &mut S, piece: &mut [u8], text: &mut Vec<u8>) -> Result<usize, Stop>
     requires { 1 ≤ length piece.old }
     ensures bound { IfOk result (λ n. n ≤ length piece.old) }
     ensures grown { IfOk result (λ n. length text.new.items ≡ length text.old.items + n) }

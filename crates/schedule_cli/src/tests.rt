@@ -47,7 +47,13 @@ fn words_of(alloc: Global, text: &str) -> Result<Vec<String>, AllocError> {
 }
 
 /// Runs the program on these words, and compares its status and what it writes.
-fn check<R: Threads + Abort + Sync + AllocGlobal>(rt: &R, words: &str, shelf: &mut MemShelf, out: &mut MemSink, want: (Status, &str)) {
+fn check<R: Threads + Abort + Sync + AllocGlobal>(
+    rt: &R,
+    words: &str,
+    shelf: &mut MemShelf,
+    out: &mut MemSink,
+    want: (Status, &str),
+) {
     let words = words_of(rt.alloc(), words).expect(rt, "memory");
     let status = run(rt, rt.alloc(), &words, shelf, out, &OpenGate);
     assert_eq!(rt; status, want.0);
@@ -69,7 +75,11 @@ const B: Rows<'static> = Rows {
 };
 
 /// Solves the project of these rows.
-fn check_solved<R: Threads + Abort + Sync + AllocGlobal>(rt: &R, rows: &Rows<'_>, want: (Status, &str)) {
+fn check_solved<R: Threads + Abort + Sync + AllocGlobal>(
+    rt: &R,
+    rows: &Rows<'_>,
+    want: (Status, &str),
+) {
     let text = text_of(rt.alloc(), rows).expect(rt, "memory");
     let none = Vec::new(rt.alloc());
     let mut shelf = shelf_of(rt.alloc(), text.as_str(), none).expect(rt, "memory");
@@ -80,10 +90,15 @@ fn check_solved<R: Threads + Abort + Sync + AllocGlobal>(rt: &R, rows: &Rows<'_>
 
 #[test]
 fn projects_are_solved_by_the_first_plan(rt: HostRuntime) {
-    let limit = "psplib-report 1\nverdict limit\nduration 5\nlower 3\njob 1 1 0\njob 2 1 0\njob 3 1 3\njob 4 1 5\nlog no\nend\n";
+    let limit =
+        "psplib-report 1\nverdict limit\nduration 5\nlower 3\njob 1 1 0\njob 2 1 0\njob 3 1 3\njob 4 1 5\nlog no\nend\n";
     check_solved(&rt, &A, (Status::Limit, limit));
-    let optimal = "psplib-report 1\nverdict optimal\nduration 3\nlower 3\njob 1 1 0\njob 2 1 0\njob 3 1 0\njob 4 1 3\nlog no\nend\n";
-    let a4 = Rows { amounts: "4\n", ..A };
+    let optimal =
+        "psplib-report 1\nverdict optimal\nduration 3\nlower 3\njob 1 1 0\njob 2 1 0\njob 3 1 0\njob 4 1 3\nlog no\nend\n";
+    let a4 = Rows {
+        amounts: "4\n",
+        ..A
+    };
     check_solved(&rt, &a4, (Status::Done, optimal));
     let infeasible = "psplib-report 1\nverdict infeasible\nduration -\nlower -\nlog no\nend\n";
     let a5 = Rows {
@@ -91,7 +106,8 @@ fn projects_are_solved_by_the_first_plan(rt: HostRuntime) {
         ..A
     };
     check_solved(&rt, &a5, (Status::Infeasible, infeasible));
-    let modes = "psplib-report 1\nverdict limit\nduration 4\nlower 2\njob 1 1 0\njob 2 2 0\njob 3 2 0\njob 4 1 4\nlog no\nend\n";
+    let modes =
+        "psplib-report 1\nverdict limit\nduration 4\nlower 2\njob 1 1 0\njob 2 2 0\njob 3 2 0\njob 4 1 4\nlog no\nend\n";
     check_solved(&rt, &B, (Status::Limit, modes));
     let refused = "bad project: code 12 line 17\n";
     let cut = Rows { amounts: "", ..A };
@@ -123,9 +139,27 @@ fn faults_are_told_by_the_status(rt: HostRuntime) {
     let mut shelf = shelf_of(rt.alloc(), text.as_str(), third).expect(&rt, "memory");
     let never = Vec::new(rt.alloc());
     let mut out = MemSink::new(rt.alloc(), 65_536, never, 65_536).expect(&rt, "memory");
-    check(&rt, "solve p log=no", &mut shelf, &mut out, (Status::ReadFault, ""));
-    check(&rt, "solve q log=no", &mut shelf, &mut out, (Status::ReadFault, ""));
+    check(
+        &rt,
+        "solve p log=no",
+        &mut shelf,
+        &mut out,
+        (Status::ReadFault, ""),
+    );
+    check(
+        &rt,
+        "solve q log=no",
+        &mut shelf,
+        &mut out,
+        (Status::ReadFault, ""),
+    );
     let second = vec![in rt.alloc(); 2].expect(&rt, "memory");
     let mut short = MemSink::new(rt.alloc(), 65_536, second, 65_536).expect(&rt, "memory");
-    check(&rt, "solve p log=no", &mut shelf, &mut short, (Status::WriteFault, "psplib-report 1\n"));
+    check(
+        &rt,
+        "solve p log=no",
+        &mut shelf,
+        &mut short,
+        (Status::WriteFault, "psplib-report 1\n"),
+    );
 }
