@@ -1,9 +1,10 @@
-ghost use Rattle.std.specs.Prelude.{◌≡◌, ◌≤◌, ℕ, None, IfSome};
+ghost use Rattle.std.specs.Prelude.{◌≡◌, ◌≤◌, ℕ, None, IfSome, IfNone};
+ghost use Rattle.rcpsp_model.specs.Project.{nonrenewables};
 ghost use Rattle.rcpsp_model.specs.Schedule.{end_of, entries};
 ghost use Rattle.rcpsp_model.specs.Plan.{IsFirstPlan};
 ghost use Rattle.rcpsp_model.specs.Claim.{Claim, NoneIsFeasible};
 ghost use Rattle.proof_log.specs.Report.{IsReport};
-ghost use Rattle.schedule_cli.specs.Solve.{IsLongestChain, IsSingleMode, IsVerdictOf};
+ghost use Rattle.schedule_cli.specs.Solve.{IsLongestChain, IsVerdictOf};
 
 use crate::chain::{is_single_mode, longest_chain};
 use project_net::{Project, Schedule};
@@ -41,7 +42,7 @@ fn judged(p: &Project, plan: &Option<Schedule>, longest: u32) -> Verdict
 pub fn verdict_of(p: &Project, plan: &Option<Schedule>) -> Verdict
     requires first { IsFirstPlan p.now plan.now }
     requires early { IfSome plan.now (λ s. end_of p.now (entries s) ≤ 1280000) }
-    requires none { plan.now ≡ None → IsSingleMode p.now → NoneIsFeasible p.now }
+    requires infeasible { IfNone plan.now (nonrenewables p.now ≡ 0 → NoneIsFeasible p.now) }
     ensures value { (h : ℕ) × IsLongestChain p.now h × IsVerdictOf p.now h plan.now result }
     ensures claim { Claim p.now result plan.now }
     ensures text { IsReport (record { verdict = result; best = plan.now; log = None }) }

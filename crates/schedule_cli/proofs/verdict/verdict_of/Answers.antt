@@ -5,7 +5,7 @@ use Rattle.schedule_cli.proofs.verdict.verdict_of.Goals as goal
 pub returns-clause-claim : goal.returns-clause-claim
 returns-clause-claim c =
     claim_of_plan c.first_plan.ensures.feasible c.job_tail.ensures.bound c.args.p.now c.longest_chain.result c.args.plan.now c.judged.result c.known.ensures.acyclic c.requires.first
-    c.longest_chain.ensures.value c.requires.none c.judged.ensures
+    c.longest_chain.ensures.value c.requires.infeasible c.judged.ensures
 
 pub returns-clause-text : goal.returns-clause-text
 returns-clause-text c =
