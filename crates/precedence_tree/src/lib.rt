@@ -8,8 +8,6 @@ mod causes;
 mod frontier;
 mod leaf;
 mod node;
-#[cfg(test)]
-mod tests;
 
 pub use branch::{Children, child, children};
 pub use frontier::eligible;

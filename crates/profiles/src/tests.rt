@@ -132,7 +132,7 @@ const USAGE: [(u32, u64, u64); 19] = [
 ];
 
 /// Places the jobs at their starts, each of which is the earliest from itself on.
-fn place_all(rt: &HostRuntime, project: &Project, profile: &mut Profile)
+fn place_all(rt: &impl Abort, project: &Project, profile: &mut Profile)
     requires { IsProfileOf project.now profile.old }
     ensures { IsProfileOf project.now profile.new }
 {
@@ -150,14 +150,7 @@ fn place_all(rt: &HostRuntime, project: &Project, profile: &mut Profile)
 fn usage_of_a_plan(rt: HostRuntime) -> Result<(), Fail> {
     let project = project_of(rt.alloc(), &JOBS, [14, 10])?;
     let mut profile = Profile::empty(rt.alloc());
-    for (job, start) in STARTS {
-        assert_eq!(rt;
-            earliest_from(&rt, &project, &profile, job, start),
-            Some(start),
-            "job {job}"
-        );
-        place_at(&rt, &project, &mut profile, job, start);
-    }
+    place_all(&rt, &project, &mut profile);
     assert_eq!(rt; profile.entries().len(), 18);
     assert_eq!(rt; project.renewables(), 2);
     for (period, first, second) in USAGE {

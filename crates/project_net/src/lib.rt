@@ -10,8 +10,6 @@ mod mode_table;
 mod network;
 mod order;
 mod print;
-#[cfg(test)]
-mod print_tests;
 mod project;
 mod reach;
 mod refusal;

@@ -226,28 +226,6 @@ fn tells_facts_of_a_diamond(rt: HostRuntime) -> Result<(), Fail> {
     Ok(())
 }
 
-#[test]
-fn tells_facts_of_a_chain_back(rt: HostRuntime) -> Result<(), Fail> {
-    let jobs: [(&[u32], &[u8]); 5] = [
-        (&[0], &[4]),
-        (&[0], &[1]),
-        (&[0], &[2]),
-        (&[3], NONE),
-        (&[2], NONE),
-    ];
-    let rows = [
-        facts(1, 0, 3, 3, 0b00010, 0b01000),
-        facts(1, 0, 3, 2, 0b00100, 0b00001),
-        facts(1, 0, 3, 1, 0b00000, 0b00010),
-        facts(1, 3, 3, 4, 0b00001, 0b00000),
-        facts(1, 2, 2, 5, 0b00000, 0b00000),
-    ];
-    let project = project(rt.alloc(), &jobs, &SMALL)?;
-    compare(&rt, &project, &rows);
-    assert_eq!(rt; project.in_order(), [3, 2, 1, 4, 5].as_slice());
-    Ok(())
-}
-
 /// Appends the duration, the requests and the needs of a mode.
 fn append_mode(
     numbers: &mut Vec<u32>,

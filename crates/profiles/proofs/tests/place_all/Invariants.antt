@@ -2,4 +2,4 @@ use Rattle.profiles.specs.Placed.{IsProfileOf}
 use Rattle.profiles.proofs.tests.place_all.Given as goal
 
 abbrev pub invariant-loop-job : goal.invariant-loop-job
-invariant-loop-job l = IsProfileOf l.project l.profile
+invariant-loop-job g l = IsProfileOf l.project l.profile
