@@ -6,6 +6,7 @@ use std::process::Abort;
 use std::thread::Threads;
 
 /// The rows of a project text that differ between projects.
+#[derive(Clone, Copy)]
 struct Rows<'a> {
     counts: (u8, u8, u8),
     precedence: &'a str,
@@ -89,77 +90,89 @@ fn check_solved<R: Threads + Abort + Sync + AllocGlobal>(
 }
 
 #[test]
-fn projects_are_solved_by_the_first_plan(rt: HostRuntime) {
-    let limit =
+fn a_plan_that_ends_after_the_longest_chain_is_no_proof(rt: HostRuntime) {
+    let want =
         "psplib-report 1\nverdict limit\nduration 5\nlower 3\njob 1 1 0\njob 2 1 0\njob 3 1 3\njob 4 1 5\nlog no\nend\n";
-    check_solved(&rt, &A, (Status::Limit, limit));
-    let optimal =
+    check_solved(&rt, &A, (Status::Limit, want));
+}
+
+#[test]
+fn a_plan_that_ends_with_the_longest_chain_is_optimal(rt: HostRuntime) {
+    let want =
         "psplib-report 1\nverdict optimal\nduration 3\nlower 3\njob 1 1 0\njob 2 1 0\njob 3 1 0\njob 4 1 3\nlog no\nend\n";
-    let a4 = Rows {
+    let rows = Rows {
         amounts: "4\n",
         ..A
     };
-    check_solved(&rt, &a4, (Status::Done, optimal));
-    let infeasible = "psplib-report 1\nverdict infeasible\nduration -\nlower -\nlog no\nend\n";
-    let a5 = Rows {
+    check_solved(&rt, &rows, (Status::Done, want));
+}
+
+#[test]
+fn a_job_that_asks_too_much_makes_it_infeasible(rt: HostRuntime) {
+    let want = "psplib-report 1\nverdict infeasible\nduration -\nlower -\nlog no\nend\n";
+    let rows = Rows {
         modes: "1 1 0 0\n2 1 3 5\n3 1 2 2\n4 1 0 0\n",
         ..A
     };
-    check_solved(&rt, &a5, (Status::Infeasible, infeasible));
-    let modes =
+    check_solved(&rt, &rows, (Status::Infeasible, want));
+}
+
+#[test]
+fn the_cheapest_modes_keep_the_budget(rt: HostRuntime) {
+    let want =
         "psplib-report 1\nverdict limit\nduration 4\nlower 2\njob 1 1 0\njob 2 2 0\njob 3 2 0\njob 4 1 4\nlog no\nend\n";
-    check_solved(&rt, &B, (Status::Limit, modes));
-    let refused = "bad project: code 12 line 17\n";
-    let cut = Rows { amounts: "", ..A };
-    check_solved(&rt, &cut, (Status::BadProject, refused));
+    check_solved(&rt, &B, (Status::Limit, want));
+}
+
+#[test]
+fn a_text_that_ends_early_is_no_project(rt: HostRuntime) {
+    let want = "bad project: code 12 line 23\n";
+    let rows = Rows { amounts: "", ..A };
+    check_solved(&rt, &rows, (Status::BadProject, want));
+}
+
+/// Runs the program on words that are no command.
+fn check_refused<R: Threads + Abort + Sync + AllocGlobal>(rt: &R, words: &str, want: &str) {
+    let none = Vec::new(rt.alloc());
+    let mut shelf = shelf_of(rt.alloc(), "", none).expect(rt, "memory");
+    let never = Vec::new(rt.alloc());
+    let mut out = MemSink::new(rt.alloc(), 100, never, 100).expect(rt, "memory");
+    check(rt, words, &mut shelf, &mut out, (Status::BadWords, want));
 }
 
 #[test]
 fn words_that_are_no_command_are_told(rt: HostRuntime) {
-    let none = Vec::new(rt.alloc());
-    let mut shelf = shelf_of(rt.alloc(), "", none).expect(&rt, "memory");
-    for (words, want) in [
-        ("", "bad words: word 1\n"),
-        ("solve", "bad words: word 2\n"),
-        ("solve p", "bad words: word 3\n"),
-        ("solve p log=yes", "bad words: word 3\n"),
-        ("solve p log=no log=no", "bad words: word 4\n"),
-        ("show p", "bad words: word 1\n"),
-    ] {
-        let never = Vec::new(rt.alloc());
-        let mut out = MemSink::new(rt.alloc(), 100, never, 100).expect(&rt, "memory");
-        check(&rt, words, &mut shelf, &mut out, (Status::BadWords, want));
-    }
+    check_refused(&rt, "", "bad words: word 1\n");
+    check_refused(&rt, "solve", "bad words: word 2\n");
+    check_refused(&rt, "solve p", "bad words: word 3\n");
+    check_refused(&rt, "solve p log=yes", "bad words: word 3\n");
+    check_refused(&rt, "solve p log=no log=no", "bad words: word 4\n");
+    check_refused(&rt, "show p", "bad words: word 1\n");
+}
+
+/// Solves project A where these calls of the shelf and of the sink fail.
+fn check_faulty<R: Threads + Abort + Sync + AllocGlobal>(
+    rt: &R,
+    words: &str,
+    failing: (u64, u64),
+    want: (Status, &str),
+) {
+    let text = text_of(rt.alloc(), &A).expect(rt, "memory");
+    let reads = vec![in rt.alloc(); failing.0].expect(rt, "memory");
+    let mut shelf = shelf_of(rt.alloc(), text.as_str(), reads).expect(rt, "memory");
+    let writes = vec![in rt.alloc(); failing.1].expect(rt, "memory");
+    let mut out = MemSink::new(rt.alloc(), 65_536, writes, 65_536).expect(rt, "memory");
+    check(rt, words, &mut shelf, &mut out, want);
 }
 
 #[test]
 fn faults_are_told_by_the_status(rt: HostRuntime) {
-    let text = text_of(rt.alloc(), &A).expect(&rt, "memory");
-    let third = vec![in rt.alloc(); 3].expect(&rt, "memory");
-    let mut shelf = shelf_of(rt.alloc(), text.as_str(), third).expect(&rt, "memory");
-    let never = Vec::new(rt.alloc());
-    let mut out = MemSink::new(rt.alloc(), 65_536, never, 65_536).expect(&rt, "memory");
-    check(
+    check_faulty(&rt, "solve p log=no", (3, 0), (Status::ReadFault, ""));
+    check_faulty(&rt, "solve q log=no", (0, 0), (Status::ReadFault, ""));
+    check_faulty(
         &rt,
         "solve p log=no",
-        &mut shelf,
-        &mut out,
-        (Status::ReadFault, ""),
-    );
-    check(
-        &rt,
-        "solve q log=no",
-        &mut shelf,
-        &mut out,
-        (Status::ReadFault, ""),
-    );
-    let second = vec![in rt.alloc(); 2].expect(&rt, "memory");
-    let mut short = MemSink::new(rt.alloc(), 65_536, second, 65_536).expect(&rt, "memory");
-    check(
-        &rt,
-        "solve p log=no",
-        &mut shelf,
-        &mut short,
+        (0, 2),
         (Status::WriteFault, "psplib-report 1\n"),
     );
 }
