@@ -32,7 +32,8 @@ fn draft_jobs(
 {
     let mut jobs = Vec::with_capacity(alloc, rows.len())?;
     for of_job in modes.into_vec() {
-        let row = &rows[jobs.len()];
+        let place = jobs.len();
+        let row = &rows[place];
         let successors = job_numbers(alloc, row.successors.as_slice())?;
         jobs.push(DraftJob {
             modes: of_job,

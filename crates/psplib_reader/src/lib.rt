@@ -4,6 +4,8 @@
 mod cycle;
 mod drafting;
 mod reader;
+#[cfg(test)]
+mod tests;
 
 pub use psplib_layout::{Fault, ReadError, Refusal};
 pub use reader::read_project;

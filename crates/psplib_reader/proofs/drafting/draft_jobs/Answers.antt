@@ -20,5 +20,5 @@ loop-of_job-preserved c =
     let lt : length l.yielded < length c.args.rows.now = omega (arith, turn.0, whole, c.requires.rows) in
     record {
       size = length_more l.yielded c.in-Some.of_job _ l.jobs.items _ size c.in_ok-push.ensures.items;
-      jobs = drafted_more c.args.rows.now l.yielded c.in-Some.of_job c.index-rows-len.result c.in_ok-successors.successors c.len.result l.jobs.items _ lt (omega (arith, l.jobs.ok.0)) c.index-rows-len.is (c.in_ok-successors.ensures ∙ c.as_slice.ensures) l.invariant.jobs c.in_ok-push.ensures.items;
+      jobs = drafted_more c.args.rows.now l.yielded c.in-Some.of_job c.index-rows-place.result c.in_ok-successors.successors c.len-place.result l.jobs.items _ lt (omega (arith, l.jobs.ok.0)) c.index-rows-place.is (c.in_ok-successors.ensures ∙ c.as_slice.ensures) l.invariant.jobs c.in_ok-push.ensures.items;
     }
