@@ -9,7 +9,7 @@ use Rattle.psplib_layout.specs.Header.{ReadsHeader, HasTitle, HasValue, HasColon
 use Rattle.rcpsp_model.specs.Project.{Project, IsWithinLimits, job_count, renewables, nonrenewables}
 use Rattle.project_net.specs.Canonical.{keyed, stars, spaced, horizon, title_lines, resource_lines, information_lines}
 use Rattle.psplib_canonical.proofs.Words.{words_of-append, words_of-word, number_of-decimal, decimal-word}
-use Rattle.psplib_canonical.proofs.Kept.{keep, kept, step, skip}
+use Rattle.psplib_canonical.proofs.Kept.{keep, kept, keep_line, skip}
 use Rattle.psplib_canonical.proofs.Rows.{keeps}
 use Rattle.psplib_canonical.proofs.ContentOf.{header_of}
 
@@ -164,20 +164,20 @@ module _ (P : Project) (limits : IsWithinLimits P) (rest : List (List ℕ)) wher
   unfolding title_lines resource_lines information_lines
   lines_are =
       skip 1 _ _ _ stars_rule
-      (step 2 _ _ _ basedata_kept
-      (step 3 _ _ _ seed_kept
+      (keep_line 2 _ _ _ basedata_kept
+      (keep_line 3 _ _ _ seed_kept
       (skip 4 _ _ _ stars_rule
-      (step 5 _ _ _ projects_kept
-      (step 6 _ _ _ (jobs_kept (decimal (job_count P)))
-      (step 7 _ _ _ (horizon_kept (decimal (horizon P)))
-      (step 8 _ _ _ resources_kept
-      (step 9 _ _ _ (renewable_kept (decimal (renewables P) ++ codes "   R"))
-      (step 10 _ _ _ (nonrenewable_kept (decimal (nonrenewables P) ++ codes "   N"))
-      (step 11 _ _ _ doubly_kept
+      (keep_line 5 _ _ _ projects_kept
+      (keep_line 6 _ _ _ (jobs_kept (decimal (job_count P)))
+      (keep_line 7 _ _ _ (horizon_kept (decimal (horizon P)))
+      (keep_line 8 _ _ _ resources_kept
+      (keep_line 9 _ _ _ (renewable_kept (decimal (renewables P) ++ codes "   R"))
+      (keep_line 10 _ _ _ (nonrenewable_kept (decimal (nonrenewables P) ++ codes "   N"))
+      (keep_line 11 _ _ _ doubly_kept
       (skip 12 _ _ _ stars_rule
-      (step 13 _ _ _ information_kept
-      (step 14 _ _ _ columns_kept
-      (step 15 _ _ _ (counts_kept P)
+      (keep_line 13 _ _ _ information_kept
+      (keep_line 14 _ _ _ columns_kept
+      (keep_line 15 _ _ _ (counts_kept P)
       (skip 16 _ _ _ stars_rule refl)))))))))))))))
 
   pub reads_header : ReadsHeader (kept 1 (title_lines P ++ (resource_lines P ++ (information_lines P ++ rest)))) (header_of P) (behind_header P rest)

@@ -27,9 +27,9 @@ unfolding kept words_of
 kept-none n = refl
 
 -- a line that is kept, and one that isn't
-pub step : (n : ℕ) (line : List ℕ) (lines : List (List ℕ)) (more : List Line) → keep line ≡ true → kept (n + 1) lines ≡ more → kept n (line ∷ lines) ≡ line_from n line ∷ more
+pub keep_line : (n : ℕ) (line : List ℕ) (lines : List (List ℕ)) (more : List Line) → keep line ≡ true → kept (n + 1) lines ≡ more → kept n (line ∷ lines) ≡ line_from n line ∷ more
 unfolding kept
-step n line lines more h e = ap (λ (b : Bool). cond b (line_from n line ∷ filter is_kept (numbered (n + 1) lines)) (filter is_kept (numbered (n + 1) lines))) h ∙ ap (λ (ls : List Line). line_from n line ∷ ls) e
+keep_line n line lines more h e = ap (λ (b : Bool). cond b (line_from n line ∷ filter is_kept (numbered (n + 1) lines)) (filter is_kept (numbered (n + 1) lines))) h ∙ ap (λ (ls : List Line). line_from n line ∷ ls) e
 
 pub skip : (n : ℕ) (line : List ℕ) (lines : List (List ℕ)) (more : List Line) → keep line ≡ false → kept (n + 1) lines ≡ more → kept n (line ∷ lines) ≡ more
 unfolding kept
@@ -41,7 +41,7 @@ steps n [] lines h = let e : n ≡ n + 0 = omega arith in ap (λ (k : ℕ). kept
 steps n (row ∷ rows) lines h =
     let k = and_parts (keep row) (list_all keep rows) h in
     let e : n + 1 + length rows ≡ n + length (row ∷ rows) = omega arith in
-    step n row (rows ++ lines) (numbered (n + 1) rows ++ kept (n + length (row ∷ rows)) lines) k.0
+    keep_line n row (rows ++ lines) (numbered (n + 1) rows ++ kept (n + length (row ∷ rows)) lines) k.0
     (steps (n + 1) rows lines k.1 ∙ ap (λ (m : ℕ). numbered (n + 1) rows ++ kept m lines) e)
 
 -- ---- a text is cut into its lines

@@ -16,7 +16,7 @@ use Rattle.psplib_layout.specs.Layout.{ReadsPrecedence, ReadsRequests, ReadsAvai
 use Rattle.rcpsp_model.specs.Project.{Project, IsWithinLimits, jobs, renewables, nonrenewables, numbers_from}
 use Rattle.project_net.specs.Canonical.{spaced, row, precedence_row, labels, all_labels, all_mode_lines, stars, hyphens, title_lines, resource_lines, information_lines, precedence_lines, requests_lines, amount_lines, availability_lines, canonical_lines}
 use Rattle.psplib_canonical.proofs.Words.{is_word, words_of-spaced, decimal-word}
-use Rattle.psplib_canonical.proofs.Kept.{keep, kept, kept-none, step, skip}
+use Rattle.psplib_canonical.proofs.Kept.{keep, kept, kept-none, keep_line, skip}
 use Rattle.psplib_canonical.proofs.Rows.{IsRow, AreLines, no_lines, row_line, part_of, keeps, small-append}
 use Rattle.psplib_canonical.proofs.ContentOf.{header_of, amounts_of, rows_of, modes_of_all, content_of, rows_limits, modes_limits, amounts_limits}
 use Rattle.psplib_canonical.proofs.PartRows.{precedence_rows, requests_rows, small_all}
@@ -63,8 +63,8 @@ module _ (P : Project) (limits : IsWithinLimits P) where
   precedence_are : (rest : List (List ℕ)) → kept 17 (precedence_lines P ++ rest) ≡ line_from 17 (codes "PRECEDENCE RELATIONS:") ∷ line_from 18 (codes "jobnr.    #modes  #successors   successors") ∷ kept 19 (rows ++ stars ∷ rest)
   unfolding precedence_lines
   precedence_are rest =
-      step 17 _ _ _ precedence_kept
-      (step 18 _ _ _ precedence_heading_kept (ap (kept 19) (append_assoc rows (stars ∷ []) rest)))
+      keep_line 17 _ _ _ precedence_kept
+      (keep_line 18 _ _ _ precedence_heading_kept (ap (kept 19) (append_assoc rows (stars ∷ []) rest)))
 
   reads_precedence : (rest : List (List ℕ)) → ReadsPrecedence (header_of P) (behind_header P (precedence_lines P ++ rest)) (rows_of P.activities) (kept behind_rows rest)
   reads_precedence rest = record {
@@ -106,8 +106,8 @@ module _ (P : Project) (limits : IsWithinLimits P) (n : ℕ) where
   requests_are : (rest : List (List ℕ)) → kept n (requests_lines P ++ rest) ≡ line_from n (codes "REQUESTS/DURATIONS:") ∷ line_from (n + 1) (requests_heading P) ∷ kept (n + 1 + 1 + 1) (mode_rows ++ stars ∷ rest)
   unfolding requests_lines
   requests_are rest =
-      step n _ _ _ requests_kept
-      (step (n + 1) _ _ _ (requests_heading_kept P)
+      keep_line n _ _ _ requests_kept
+      (keep_line (n + 1) _ _ _ (requests_heading_kept P)
       (skip (n + 1 + 1) _ _ _ hyphens_rule (ap (kept (n + 1 + 1 + 1)) (append_assoc mode_rows (stars ∷ []) rest))))
 
   reads_requests : (rest : List (List ℕ)) → ReadsRequests (header_of P) (rows_of P.activities) (kept n (requests_lines P ++ rest)) (modes_of_all P.activities) (kept behind_modes rest)
@@ -186,7 +186,7 @@ module _ (P : Project) (limits : IsWithinLimits P) (n : ℕ) where
       record {
         heading = line_from (n + 1) (spaced (all_labels P));
         behind = kept (n + 1 + 1) (row (P.capacities ++ P.budgets) ∷ stars ∷ [] ∷ []);
-        lines_are = step (n + 1) _ _ _ (labels_kept some) refl;
+        lines_are = keep_line (n + 1) _ _ _ (labels_kept some) refl;
         part = subst (λ (ls : List Line). HasPart (P.capacities ++ P.budgets) (kept (n + 1 + 1) (row (P.capacities ++ P.budgets) ∷ stars ∷ [] ∷ [])) ls) (kept-none (n + 1 + 1 + 1 + 1)) part;
       }
     where
@@ -197,7 +197,7 @@ module _ (P : Project) (limits : IsWithinLimits P) (n : ℕ) where
   availability_are : kept n (availability_lines P ++ [] ∷ []) ≡ line_from n (codes "RESOURCEAVAILABILITIES:") ∷ kept (n + 1) (behind_title (eqb (renewables P + nonrenewables P) 0))
   unfolding availability_lines amount_lines
   availability_are =
-      step n _ _ _ availability_kept
+      keep_line n _ _ _ availability_kept
       (ap (kept (n + 1)) (append_assoc (cond (eqb (renewables P + nonrenewables P) 0) [] (spaced (all_labels P) ∷ row (P.capacities ++ P.budgets) ∷ [])) (stars ∷ []) ([] ∷ [])))
 
   reads_availabilities : ReadsAvailabilities (header_of P) (kept n (availability_lines P ++ [] ∷ [])) (amounts_of P) []
