@@ -8,13 +8,6 @@ use crate::node::Node;
 use project_net::Project;
 use sched_base::{Job, JobSet};
 
-/// Whether the second set has each job of the first.
-fn is_within(set: JobSet, other: JobSet) -> bool
-    ensures { IsTrue result ↔ ((i : ℕ) → 1 ≤ i → member set i ≡ true → member other i ≡ true) }
-{
-    set.union(other) == other
-}
-
 /// Whether the job isn't placed and each of its predecessors is.
 fn is_eligible(project: &Project, node: &Node, job: u8) -> bool
     requires { IsJob project.now job }
@@ -25,7 +18,7 @@ fn is_eligible(project: &Project, node: &Node, job: u8) -> bool
     if placed.has(Job(job)) {
         return false;
     }
-    is_within(project.preds(job), placed)
+    project.preds(job).is_within(placed)
 }
 
 /// The eligible jobs: those that aren't placed, and whose predecessors are.

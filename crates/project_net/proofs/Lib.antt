@@ -7,7 +7,6 @@ pub mod DraftLemmas
 pub mod Pairs
 pub mod Via
 pub mod Cycles
-pub mod Sets
 pub mod Taken
 pub mod TailLemmas
 pub mod EndLemmas

@@ -1,4 +1,4 @@
-ghost use Rattle.std.specs.Prelude.{◌≡◌, ℕ, ◌≤◌, ◌↔◌, length, true, IsTrue, IfOk, IfSome, IfNone};
+ghost use Rattle.std.specs.Prelude.{◌≡◌, ℕ, ◌≤◌, length, IfOk, IfSome, IfNone};
 ghost use Rattle.sched_base.specs.JobSet.{member};
 ghost use Rattle.rcpsp_model.specs.Project.{IsAcyclic, job_count};
 ghost use Rattle.project_net.specs.Order.{AreApart, AreFirstRanks, AreRanks, IsFree, IsLowestFirst, IsLowestFree, IsTopological};
@@ -7,13 +7,6 @@ use crate::network::Network;
 use sched_base::{Job, JobSet, NoMemory};
 use std::alloc::Global;
 
-/// Whether the second set has each job of the first.
-fn is_within(set: JobSet, other: JobSet) -> bool
-    ensures { IsTrue result ↔ ((i : ℕ) → 1 ≤ i → member set i ≡ true → member other i ≡ true) }
-{
-    set.union(other) == other
-}
-
 /// The lowest job outside the set whose predecessors are in it.
 fn lowest_free(network: &Network, taken: JobSet) -> Option<u8>
     ensures some { IfSome result (IsLowestFree network.now (member taken)) }
@@ -21,7 +14,7 @@ fn lowest_free(network: &Network, taken: JobSet) -> Option<u8>
 {
     for place in 0..network.jobs() {
         let job = place + 1;
-        if !taken.has(Job(job)) && is_within(network.preds(job), taken) {
+        if !taken.has(Job(job)) && network.preds(job).is_within(taken) {
             return Some(job);
         }
     }

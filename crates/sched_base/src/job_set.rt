@@ -1,4 +1,4 @@
-ghost use Rattle.std.specs.Prelude.{◌≡◌, ℕ, ◌-◌, ◌≤◌, ◌==◌, ◌||◌, false, count_ones};
+ghost use Rattle.std.specs.Prelude.{◌≡◌, ℕ, ◌-◌, ◌≤◌, ◌==◌, ◌||◌, ◌↔◌, true, false, IsTrue, count_ones};
 
 use crate::job::Job;
 
@@ -39,6 +39,13 @@ impl JobSet {
         ensures { (i : ℕ) → member result i ≡ (member self i || member other i) }
     {
         JobSet(self.0 | other.0)
+    }
+
+    /// Whether the other set has each job of this one.
+    pub fn is_within(self, other: JobSet) -> bool
+        ensures { IsTrue result ↔ ((i : ℕ) → 1 ≤ i → member self i ≡ true → member other i ≡ true) }
+    {
+        self.union(other) == other
     }
 
     /// How many jobs the set has.

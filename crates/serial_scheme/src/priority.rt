@@ -8,20 +8,13 @@ use project_net::Project;
 use rcpsp_model::Entry;
 use sched_base::{Job, JobSet};
 
-/// Whether the second set has each job of the first.
-fn is_within(set: JobSet, other: JobSet) -> bool
-    ensures { IsTrue result ↔ ((i : ℕ) → 1 ≤ i → member set i ≡ true → member other i ≡ true) }
-{
-    set.union(other) == other
-}
-
 /// Whether the job isn't placed and each of its predecessors is.
 fn is_open(p: &Project, placed: JobSet, job: u8) -> bool
     requires { IsJob p.now job }
     ensures { IsTrue result ↔ IsOpen p.now (member placed) job }
 {
     p.known();
-    !placed.has(Job(job)) && is_within(p.preds(job), placed)
+    !placed.has(Job(job)) && p.preds(job).is_within(placed)
 }
 
 /// Of two jobs the one of greater tail, the first on a tie.
