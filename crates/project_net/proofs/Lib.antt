@@ -16,3 +16,4 @@ pub mod Appended
 pub mod HorizonLemmas
 pub mod Listed
 pub mod PrintLemmas
+pub mod PlaceSteps

@@ -7,3 +7,4 @@ pub mod Flatten
 pub mod Prepared
 pub mod Canonical
 pub mod Printing
+pub mod Placings
