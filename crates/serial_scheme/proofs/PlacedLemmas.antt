@@ -1,8 +1,8 @@
 -- What holds of entries that were placed in turn.
-use Rattle.std.proofs.Common.{◌≡◌, ℕ, ◌+◌, ◌*◌, ◌<◌, ◌≤◌, max, inl, inr, arith, refl, sym, ap, subst, ◌∙◌, List, [], ◌∷◌, ◌++◌, length, length-append, append_assoc, replicate, Bool, true, false, cond, eqb, ◌||◌}
+use Rattle.std.proofs.Common.{◌≡◌, ℕ, ◌+◌, ◌*◌, ◌<◌, ◌≤◌, max, inl, inr, arith, refl, sym, ap, subst, ◌∙◌, List, [], ◌∷◌, ◌++◌, length, length-append, replicate, Bool, true, false, cond, eqb, ◌||◌}
 use Rattle.std.specs.Prelude.{filter, Option, Some, IfSome}
 use Rattle.std.proofs.lemmas.Bool.{cases_eq, eq-eqb, ne_eqb}
-use Rattle.std.proofs.lemmas.List.{append-nil, length-replicate}
+use Rattle.std.proofs.lemmas.List.{length-replicate}
 use Rattle.sched_base.specs.declared.job_set.JobSet.{JobSet}
 use Rattle.sched_base.specs.JobSet.{member}
 use Rattle.rcpsp_model.specs.declared.parts.Entry.{Entry}
