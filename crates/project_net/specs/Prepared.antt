@@ -1,7 +1,8 @@
 -- What a project keeps beside its network.
 use Rattle.std.specs.Prelude.{ℕ, List}
 use Rattle.rcpsp_model.specs.Project.{Project, IsProject}
-use Rattle.project_net.specs.Order.{AreRanks, IsLowestFirst, IsTopological}
+use Rattle.rcpsp_model.specs.Rank.{IsLowestFirst}
+use Rattle.project_net.specs.Order.{AreRanks, IsTopological}
 use Rattle.project_net.specs.Tails.{AreLeastDurations, AreTails}
 
 -- a project with its jobs in order, their least durations, tails and ranks

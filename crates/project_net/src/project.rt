@@ -40,7 +40,8 @@ impl Project {
     ghost use Rattle.rcpsp_model.specs.Chain.{least_duration, IsTail};
     ghost use Rattle.sched_base.specs.JobSet.{member};
     ghost use Rattle.project_net.specs.Draft.{project_of};
-    ghost use Rattle.project_net.specs.Order.{IsLowestFirst, IsRank, IsTopological};
+    ghost use Rattle.rcpsp_model.specs.Rank.{IsLowestFirst, IsRank};
+    ghost use Rattle.project_net.specs.Order.{IsTopological};
     ghost use Rattle.project_net.specs.Refusal.{IsRefusal, IsSound};
 
     /// The project of a network without a cycle.
