@@ -8,6 +8,8 @@ pub mod Pairs
 pub mod Via
 pub mod Cycles
 pub mod Taken
+pub mod LeastLemmas
+pub mod TableLemmas
 pub mod TailLemmas
 pub mod EndLemmas
 pub mod RankLemmas

@@ -1,6 +1,7 @@
 pub mod Draft
 pub mod Order
 pub mod Refusal
+pub mod Least
 pub mod Tails
 pub mod Flat
 pub mod Flatten
