@@ -90,7 +90,7 @@ pub fn run<R: Threads + Sync, S: Shelf, K: Sink, G: Gate + Sync>(
     ensures read_fault { result ≡ Status.ReadFault → (bad_word (map string_bytes words.now) ≡ None) × Rose (S.faults shelf.old) (S.faults shelf.new) }
     ensures silent { (result ≡ Status.ReadFault) ⊎ (result ≡ Status.NoMemory) → Gains (K.held out.old) (K.held out.new) [] }
 
-    // Some word can't stand exactly where the status is 4, but for 7 and 8.
+    // Unless the status is 7 or 8, it is 4 exactly where some word can't stand.
     ensures bad_words { (result ≡ Status.WriteFault → ⊥) → (result ≡ Status.NoMemory → ⊥) → (result ≡ Status.BadWords) ↔ IsSome (bad_word (map string_bytes words.now)) }
 
     // Where an answer is told, the status is 5 exactly where the words are a command and the text is no project, and 0, 1
