@@ -25,6 +25,10 @@ pub record Reads (text : List ℕ) (P : Project) : Type 0 where
   pub described : project_of content ≡ P
   pub acyclic : IsAcyclic P
 
+-- the text is some project
+abbrev pub IsProjectText : List ℕ → Type 0
+IsProjectText text = (P : Project) × Reads text P
+
 -- the line on which a text ends: one more than it has LF bytes
 abbrev pub end_line : List ℕ → ℕ
 end_line text = count_by is_line_end text + 1

@@ -34,7 +34,7 @@ leads_from_chain : (P : Project) (between : List ℕ) (i j : ℕ) → IsChain P 
 leads_from_chain P [] i j h = pair h.0
 leads_from_chain P (k ∷ ks) i j h = on h.0 (leads_from_chain P ks k j h.1)
 
-lowest_is : (P : Project) (j : ℕ) → IsLeast (LeadsBack P) j → IsLeast (IsOnCycle P) j
+pub lowest_is : (P : Project) (j : ℕ) → IsLeast (LeadsBack P) j → IsLeast (IsOnCycle P) j
 lowest_is P j h = record {
   attained = chain_from_leads P h.attained;
   least = λ u chain. h.least u (leads_from_chain P chain.0 u u chain.1);

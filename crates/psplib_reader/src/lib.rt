@@ -3,6 +3,7 @@
 
 mod cycle;
 mod drafting;
+pub mod laws;
 mod reader;
 #[cfg(test)]
 mod tests;

@@ -2,7 +2,7 @@
 use Rattle.std.proofs.Common.{◌≡◌, ℕ, ◌+◌, ◌≤◌, max, inl, inr, subst, sym, arith}
 use Rattle.std.proofs.lemmas.Bool.{cases_eq}
 use Rattle.rcpsp_model.specs.Project.{Project, IsJob}
-use Rattle.rcpsp_model.specs.Chain.{IsTail, IsGreatest}
+use Rattle.rcpsp_model.specs.Chain.{IsTail}
 use Rattle.schedule_cli.specs.Solve.{IsSomeTail, IsLongestChain}
 
 -- h is the greatest tail of the jobs up to n

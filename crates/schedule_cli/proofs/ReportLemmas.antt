@@ -1,10 +1,9 @@
 -- A report on a project has a text.
-use Rattle.std.proofs.Common.{◌≡◌, ℕ, ◌≤◌, refl, sym, arith, Option, Some, None, IfSome, List, length, get_or}
-use Rattle.std.specs.Prelude.{All}
+use Rattle.std.proofs.Common.{ℕ, ◌≤◌, refl, arith, Option, Some, None, IfSome, List}
 use Rattle.rcpsp_model.specs.declared.parts.Placing.{Placing}
 use Rattle.rcpsp_model.specs.declared.parts.Verdict.{Verdict}
 use Rattle.rcpsp_model.specs.declared.parts.Verdict.TheVariants.{Optimal, Infeasible, Limit}
-use Rattle.rcpsp_model.specs.Project.{Project, IsProject, job_count}
+use Rattle.rcpsp_model.specs.Project.{Project, IsProject}
 use Rattle.rcpsp_model.specs.Schedule.{end_of, entries, IsFeasible}
 use Rattle.rcpsp_model.specs.Plan.{IsFirstPlan}
 use Rattle.rcpsp_model.specs.Laws.{FirstPlanLaw}

@@ -8,8 +8,7 @@ use Rattle.rcpsp_model.specs.Plan.{IsFirstPlan}
 use Rattle.rcpsp_model.specs.Claim.{Claim}
 use Rattle.psplib_layout.specs.declared.fault.Fault.{Fault}
 use Rattle.psplib_layout.specs.declared.fault.Fault.TheVariants as faults
-use Rattle.psplib_layout.specs.declared.fault.Refusal.{Refusal}
-use Rattle.psplib_layout.specs.Text.{Reads, IsFirstRefusal}
+use Rattle.psplib_layout.specs.Text.{Reads, IsProjectText, IsFirstRefusal}
 use Rattle.proof_log.specs.declared.report.Report.{Report}
 use Rattle.proof_log.specs.Report.{IsReport}
 use Rattle.proof_log.specs.Text.{text}
@@ -99,3 +98,13 @@ IsTold statuses.ReadFault = ⊥
 IsTold statuses.WriteFault = ⊥
 IsTold statuses.NoMemory = ⊥
 IsTold _ = Unit {0}
+
+-- ---- what the words ask for
+
+-- the words are a command, and the text under the project's name is a project
+abbrev pub NamesProject : List (List ℕ) → List (List ℕ × List ℕ) → Type 0
+NamesProject words texts = (bad_word words ≡ None) × IsProjectText (text_under texts (project_name words))
+
+-- the words are a command, and the text under the project's name is no project
+abbrev pub NamesNoProject : List (List ℕ) → List (List ℕ × List ℕ) → Type 0
+NamesNoProject words texts = (bad_word words ≡ None) × (IsProjectText (text_under texts (project_name words)) → ⊥)

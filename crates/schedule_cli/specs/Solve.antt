@@ -1,12 +1,11 @@
 -- What the first plan and the longest chain say of a project.
-use Rattle.std.specs.Prelude.{◌≡◌, ℕ, ◌==◌, Bool, true, List, length, Option, Some, None, if◌then◌else◌}
+use Rattle.std.specs.Prelude.{◌≡◌, ℕ, List, length, Option, Some, None}
 use Rattle.rcpsp_model.specs.declared.parts.Placing.{Placing}
 use Rattle.rcpsp_model.specs.declared.parts.Verdict.{Verdict}
 use Rattle.rcpsp_model.specs.declared.parts.Verdict.TheVariants.{Optimal, Infeasible, Limit}
 use Rattle.rcpsp_model.specs.Project.{Project, modes_of, nonrenewables, IsJob}
 use Rattle.rcpsp_model.specs.Schedule.{end_of, entries}
 use Rattle.rcpsp_model.specs.Chain.{IsTail, IsGreatest}
-use Rattle.rcpsp_model.specs.Plan.{IsFirstPlan}
 
 -- t is the tail of some job
 abbrev pub IsSomeTail : Project → ℕ → Type 0

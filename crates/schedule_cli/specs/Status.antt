@@ -1,5 +1,6 @@
 -- How a run ends.
 use Rattle.std.specs.Prelude.{ℕ}
+use Rattle.sched_base.specs.Outside.{Rose}
 use Rattle.schedule_cli.specs.declared.status.Status.{Status}
 use Rattle.schedule_cli.specs.declared.status.Status.TheVariants.{Done, Infeasible, Limit, ReportRefused, BadWords, BadProject, ReadFault, WriteFault, NoMemory}
 
@@ -14,3 +15,14 @@ number_of BadProject = 5
 number_of ReadFault = 6
 number_of WriteFault = 7
 number_of NoMemory = 8
+
+-- the status of a verdict
+abbrev pub IsSolved : Status → Type 0
+IsSolved Done = Unit {0}
+IsSolved Infeasible = Unit {0}
+IsSolved Limit = Unit {0}
+IsSolved _ = ⊥
+
+-- no fault was counted, by the counts before and after
+abbrev pub IsFaultless : ℕ → ℕ → Type 0
+IsFaultless before now = Rose before now → ⊥

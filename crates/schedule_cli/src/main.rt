@@ -5,6 +5,8 @@ mod answer;
 mod chain;
 mod file_shelf;
 mod reading;
+#[cfg(test)]
+mod refusal_tests;
 mod run;
 mod status;
 mod std_sink;

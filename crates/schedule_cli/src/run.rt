@@ -1,11 +1,11 @@
-ghost use Rattle.std.specs.Prelude.{◌≡◌, ◌⊎◌, ◌≤◌, Err, None, Some, IsSome, IfOk, IfSome, OnOk, [], map, string_bytes};
-ghost use Rattle.sched_base.specs.Outside.{Gains, GainsFront, Rose, text_under};
-ghost use Rattle.psplib_layout.specs.declared.fault.ReadError.TheVariants as errors;
+ghost use Rattle.std.specs.Prelude.{◌≡◌, ◌⊎◌, ◌↔◌, Err, None, IsSome, IfOk, IfSome, [], map, string_bytes};
+ghost use Rattle.sched_base.specs.Outside.{Gains, GainsFront, Rose};
 ghost use Rattle.schedule_cli.specs.declared.answer.Answer.{Answer as Told};
 ghost use Rattle.schedule_cli.specs.declared.answer.Answer.TheVariants as answers;
 ghost use Rattle.schedule_cli.specs.declared.stop.Stop.TheVariants as stops;
 ghost use Rattle.schedule_cli.specs.Words.{bad_word};
-ghost use Rattle.schedule_cli.specs.Answer.{IsSolutionOf, IsReportOn, IsAnswerTo, IsTellable, IsTold, status_of, text_of};
+ghost use Rattle.schedule_cli.specs.Status.{IsSolved, IsFaultless};
+ghost use Rattle.schedule_cli.specs.Answer.{IsSolutionOf, IsReportOn, IsAnswerTo, IsTellable, IsTold, NamesProject, NamesNoProject, status_of, text_of};
 ghost use Rattle.proof_log.specs.Report.{IsReport};
 
 use crate::answer::{Answer, Solution};
@@ -89,6 +89,19 @@ pub fn run<R: Threads + Sync, S: Shelf, K: Sink, G: Gate + Sync>(
     // A fault of the shelf, or want of memory, leaves nothing; the words of a faulty shelf are a command.
     ensures read_fault { result ≡ Status.ReadFault → (bad_word (map string_bytes words.now) ≡ None) × Rose (S.faults shelf.old) (S.faults shelf.new) }
     ensures silent { (result ≡ Status.ReadFault) ⊎ (result ≡ Status.NoMemory) → Gains (K.held out.old) (K.held out.new) [] }
+
+    // Unless the status is 7 or 8, it is 4 exactly where some word can't stand.
+    ensures bad_words { (result ≡ Status.WriteFault → ⊥) → (result ≡ Status.NoMemory → ⊥) → (result ≡ Status.BadWords) ↔ IsSome (bad_word (map string_bytes words.now)) }
+
+    // Where an answer is told, the status is 5 exactly where the words are a command and the text is no project, and 0, 1
+    // or 2 exactly where it is one.
+    ensures bad_project { IsTold result → IfSome (S.texts shelf.old) (λ texts. (result ≡ Status.BadProject) ↔ NamesNoProject (map string_bytes words.now) texts) }
+    ensures solved { IsTold result → IfSome (S.texts shelf.old) (λ texts. IsSolved result ↔ NamesProject (map string_bytes words.now) texts) }
+
+    // Where no fault was counted in the call and memory wasn't refused, an answer is told, and a project is solved.
+    ensures answers { IsFaultless (S.faults shelf.old) (S.faults shelf.new) → IsFaultless (K.faults out.old) (K.faults out.new) → (result ≡ Status.NoMemory → ⊥) → IsTold result }
+    ensures complete { IfSome (S.texts shelf.old) (λ texts. NamesProject (map string_bytes words.now) texts
+        → IsFaultless (S.faults shelf.old) (S.faults shelf.new) → IsFaultless (K.faults out.old) (K.faults out.new) → (result ≡ Status.NoMemory → ⊥) → IsSolved result) }
 {
     match answer_to(alloc, words, shelf) {
         Ok(answer) => match tell(alloc, out, &answer) {

@@ -25,15 +25,15 @@ fn text_of(alloc: Global, rows: &Rows<'_>) -> Result<String, AllocError> {
     text.push_str(rows.precedence)?;
     text.push_str("REQUESTS/DURATIONS:\njobnr.\n")?;
     text.push_str(rows.modes)?;
-    text.push_str("RESOURCEAVAILABILITIES:\nR 1\n")?;
+    text.push_str("RESOURCEAVAILABILITIES:\n")?;
     text.push_str(rows.amounts)?;
     Ok(text)
 }
 
 /// A shelf that has one text, under the name `p`, and whose listed calls fail.
-fn shelf_of(alloc: Global, text: &str, failing: Vec<u64>) -> Result<MemShelf, AllocError> {
+fn shelf_of(alloc: Global, text: &[u8], failing: Vec<u64>) -> Result<MemShelf, AllocError> {
     let mut bytes = Vec::new(alloc);
-    bytes.extend_from_slice(text.as_bytes())?;
+    bytes.extend_from_slice(text)?;
     let texts = vec![in alloc; (String::from_str(alloc, "p")?, bytes)]?;
     Ok(MemShelf::new(texts, failing, 65_536))
 }
@@ -65,15 +65,28 @@ const A: Rows<'static> = Rows {
     counts: (4, 1, 0),
     precedence: "1 1 2 2 3\n2 1 1 4\n3 1 1 4\n4 1 0\n",
     modes: "1 1 0 0\n2 1 3 2\n3 1 2 2\n4 1 0 0\n",
-    amounts: "3\n",
+    amounts: "R 1\n3\n",
 };
 
 const B: Rows<'static> = Rows {
     counts: (4, 1, 1),
     precedence: "1 1 2 2 3\n2 2 1 4\n3 2 1 4\n4 1 0\n",
     modes: "1 1 0 0 0\n2 1 2 1 3\n2 4 1 1\n3 1 2 1 3\n2 4 1 1\n4 1 0 0 0\n",
-    amounts: "2 4\n",
+    amounts: "R 1 N 1\n2 4\n",
 };
+
+/// Solves the project of this text.
+pub fn check_text<R: Threads + Abort + Sync + AllocGlobal>(
+    rt: &R,
+    text: &[u8],
+    want: (Status, &str),
+) {
+    let none = Vec::new(rt.alloc());
+    let mut shelf = shelf_of(rt.alloc(), text, none).expect(rt, "memory");
+    let never = Vec::new(rt.alloc());
+    let mut out = MemSink::new(rt.alloc(), 65_536, never, 65_536).expect(rt, "memory");
+    check(rt, "solve p log=no", &mut shelf, &mut out, want);
+}
 
 /// Solves the project of these rows.
 fn check_solved<R: Threads + Abort + Sync + AllocGlobal>(
@@ -82,11 +95,7 @@ fn check_solved<R: Threads + Abort + Sync + AllocGlobal>(
     want: (Status, &str),
 ) {
     let text = text_of(rt.alloc(), rows).expect(rt, "memory");
-    let none = Vec::new(rt.alloc());
-    let mut shelf = shelf_of(rt.alloc(), text.as_str(), none).expect(rt, "memory");
-    let never = Vec::new(rt.alloc());
-    let mut out = MemSink::new(rt.alloc(), 65_536, never, 65_536).expect(rt, "memory");
-    check(rt, "solve p log=no", &mut shelf, &mut out, want);
+    check_text(rt, text.as_bytes(), want);
 }
 
 #[test]
@@ -101,7 +110,7 @@ fn a_plan_that_ends_with_the_longest_chain_is_optimal(rt: HostRuntime) {
     let want =
         "psplib-report 1\nverdict optimal\nduration 3\nlower 3\njob 1 1 0\njob 2 1 0\njob 3 1 0\njob 4 1 3\nlog no\nend\n";
     let rows = Rows {
-        amounts: "4\n",
+        amounts: "R 1\n4\n",
         ..A
     };
     check_solved(&rt, &rows, (Status::Done, want));
@@ -125,16 +134,95 @@ fn the_cheapest_modes_keep_the_budget(rt: HostRuntime) {
 }
 
 #[test]
+fn modes_that_break_the_budgets_leave_no_plan(rt: HostRuntime) {
+    let want = "psplib-report 1\nverdict limit\nduration -\nlower 1\nlog no\nend\n";
+    let rows = Rows {
+        counts: (2, 0, 2),
+        precedence: "1 2 0\n2 2 0\n",
+        modes: "1 1 1 3 0\n2 1 0 3\n2 1 1 3 0\n2 1 0 3\n",
+        amounts: "N 1 N 2\n3 3\n",
+    };
+    check_solved(&rt, &rows, (Status::Limit, want));
+}
+
+#[test]
+fn a_budget_that_is_met_exactly_is_kept(rt: HostRuntime) {
+    let want =
+        "psplib-report 1\nverdict optimal\nduration 2\nlower 2\njob 1 1 0\njob 2 1 0\njob 3 1 0\njob 4 1 2\nlog no\nend\n";
+    let rows = Rows {
+        amounts: "R 1 N 1\n2 6\n",
+        ..B
+    };
+    check_solved(&rt, &rows, (Status::Done, want));
+}
+
+const EIGHTEEN_JOBS: Rows<'static> = Rows {
+    counts: (18, 2, 2),
+    precedence: "1 1 3 2 3 4\n2 2 2 5 6\n3 2 2 7 8\n4 2 2 9 10\n5 2 1 11\n6 2 2 11 12\n7 2 1 12\n8 2 1 13\n9 2 2 13 14\n10 2 1 14\n11 2 1 15\n12 2 2 15 16\n13 2 1 16\n14 2 1 17\n15 2 1 18\n16 2 1 18\n17 2 1 18\n18 1 0\n",
+    modes: "1 1 0 0 0 0 0\n2 1 3 4 2 5 2\n2 5 2 2 2 1\n3 1 4 3 3 4 3\n2 6 2 2 2 1\n4 1 2 2 4 3 3\n2 4 1 3 1 1\n5 1 4 4 0 6 1\n2 7 2 0 3 0\n6 1 2 3 2 2 4\n2 4 2 1 1 2\n7 1 3 0 4 4 2\n2 5 0 2 2 1\n8 1 5 2 3 5 5\n2 8 1 2 2 2\n9 1 3 3 3 3 2\n2 5 2 2 1 1\n10 1 4 4 0 4 4\n2 7 2 0 2 2\n11 1 5 5 2 7 3\n2 9 3 1 3 1\n12 1 3 2 3 2 2\n2 5 1 2 1 1\n13 1 4 3 2 4 3\n2 6 2 1 2 1\n14 1 2 2 2 3 1\n2 4 1 1 1 0\n15 1 6 6 1 6 5\n2 9 4 1 3 2\n16 1 3 3 4 2 3\n2 5 2 3 1 1\n17 1 4 2 3 3 2\n2 6 1 2 1 1\n18 1 0 0 0 0 0\n",
+    amounts: "R 1 R 2 N 1 N 2\n14 10 70 45\n",
+};
+
+#[test]
+fn eighteen_jobs_end_with_their_longest_chain(rt: HostRuntime) {
+    let want =
+        "psplib-report 1\nverdict optimal\nduration 18\nlower 18\njob 1 1 0\njob 2 1 0\njob 3 1 0\njob 4 1 0\njob 5 1 3\njob 6 1 3\njob 7 1 4\njob 8 1 4\njob 9 1 5\njob 10 1 2\njob 11 1 7\njob 12 1 8\njob 13 1 9\njob 14 1 8\njob 15 1 12\njob 16 1 13\njob 17 1 10\njob 18 1 18\nlog no\nend\n";
+    check_solved(&rt, &EIGHTEEN_JOBS, (Status::Done, want));
+}
+
+/// A line for each of 128 jobs: what stands before its number, the number, and what stands behind it.
+fn append_jobs(
+    alloc: Global,
+    text: &mut String,
+    before: &str,
+    behind: &str,
+) -> Result<(), AllocError> {
+    for done in 0..128u8 {
+        let line = format!(in alloc; "{before}{}{behind}\n", done + 1)?;
+        text.push_str(line.as_str())?;
+    }
+    Ok(())
+}
+
+/// The report on 128 jobs of duration 0.
+fn empty_report(alloc: Global) -> Result<String, AllocError> {
+    let mut text = String::from_str(
+        alloc,
+        "psplib-report 1\nverdict optimal\nduration 0\nlower 0\n",
+    )?;
+    append_jobs(alloc, &mut text, "job ", " 1 0")?;
+    text.push_str("log no\nend\n")?;
+    Ok(text)
+}
+
+#[test]
+fn as_many_jobs_as_there_may_be_are_solved(rt: HostRuntime) {
+    let mut each = String::new(rt.alloc());
+    append_jobs(rt.alloc(), &mut each, "", " 1 0").expect(&rt, "memory");
+    let want = empty_report(rt.alloc()).expect(&rt, "memory");
+    let rows = Rows {
+        counts: (128, 0, 0),
+        precedence: each.as_str(),
+        modes: each.as_str(),
+        amounts: "",
+    };
+    check_solved(&rt, &rows, (Status::Done, want.as_str()));
+}
+
+#[test]
 fn a_text_that_ends_early_is_no_project(rt: HostRuntime) {
     let want = "bad project: code 12 line 23\n";
-    let rows = Rows { amounts: "", ..A };
+    let rows = Rows {
+        amounts: "R 1\n",
+        ..A
+    };
     check_solved(&rt, &rows, (Status::BadProject, want));
 }
 
 /// Runs the program on words that are no command.
 fn check_refused<R: Threads + Abort + Sync + AllocGlobal>(rt: &R, words: &str, want: &str) {
     let none = Vec::new(rt.alloc());
-    let mut shelf = shelf_of(rt.alloc(), "", none).expect(rt, "memory");
+    let mut shelf = shelf_of(rt.alloc(), b"", none).expect(rt, "memory");
     let never = Vec::new(rt.alloc());
     let mut out = MemSink::new(rt.alloc(), 100, never, 100).expect(rt, "memory");
     check(rt, words, &mut shelf, &mut out, (Status::BadWords, want));
@@ -159,7 +247,7 @@ fn check_faulty<R: Threads + Abort + Sync + AllocGlobal>(
 ) {
     let text = text_of(rt.alloc(), &A).expect(rt, "memory");
     let reads = vec![in rt.alloc(); failing.0].expect(rt, "memory");
-    let mut shelf = shelf_of(rt.alloc(), text.as_str(), reads).expect(rt, "memory");
+    let mut shelf = shelf_of(rt.alloc(), text.as_bytes(), reads).expect(rt, "memory");
     let writes = vec![in rt.alloc(); failing.1].expect(rt, "memory");
     let mut out = MemSink::new(rt.alloc(), 65_536, writes, 65_536).expect(rt, "memory");
     check(rt, words, &mut shelf, &mut out, want);

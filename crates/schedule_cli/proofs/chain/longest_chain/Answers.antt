@@ -1,4 +1,4 @@
-use Rattle.std.proofs.Common.{ℕ, ◌+◌, ◌≤◌, arith}
+use Rattle.std.proofs.Common.{arith}
 use Rattle.schedule_cli.proofs.ChainLemmas.{first_longest, next_longest, all_longest}
 use Rattle.schedule_cli.proofs.chain.longest_chain.Goals as goal
 

@@ -1,0 +1,19 @@
+use Rattle.std.proofs.Common.{◌≡◌, map, string_bytes}
+use Rattle.schedule_cli.specs.declared.status.Status.TheVariants.{NoMemory}
+use Rattle.schedule_cli.specs.Status.{IsFaultless}
+use Rattle.schedule_cli.proofs.StatusLemmas.{told_bad_project, told_solved, told_complete}
+use Rattle.schedule_cli.proofs.run.run.Goals as goal
+
+pub returns-in-Ok-tell-clause-bad_project : goal.returns-in-Ok-tell-clause-bad_project
+returns-in-Ok-tell-clause-bad_project g c told =
+    told_bad_project (map string_bytes c.args.words.now) (g.S.Shelf.texts c.args.shelf.now) c.in-Ok.answer c.status.result c.in-Ok.ensures.answer c.status.ensures
+
+pub returns-in-Ok-tell-clause-solved : goal.returns-in-Ok-tell-clause-solved
+returns-in-Ok-tell-clause-solved g c told =
+    told_solved (map string_bytes c.args.words.now) (g.S.Shelf.texts c.args.shelf.now) c.in-Ok.answer c.status.result c.in-Ok.ensures.answer c.status.ensures
+
+pub returns-in-Ok-tell-clause-complete : goal.returns-in-Ok-tell-clause-complete
+returns-in-Ok-tell-clause-complete g c =
+    told_complete (map string_bytes c.args.words.now) (g.S.Shelf.texts c.args.shelf.now) c.in-Ok.answer c.status.result
+    (IsFaultless (g.S.Shelf.faults c.args.shelf.now) (g.S.Shelf.faults c.answer_to.new.shelf)) (IsFaultless (g.K.Sink.faults c.args.out.now) (g.K.Sink.faults c.tell.new.out)) (c.status.result ≡ NoMemory → ⊥)
+    c.in-Ok.ensures.answer c.status.ensures

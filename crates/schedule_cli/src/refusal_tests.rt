@@ -1,0 +1,247 @@
+//! The refusals of a project text, as the program tells them: a canonical text with one edit.
+
+use crate::status::Status;
+use crate::tests::check_text;
+use std::alloc::{AllocError, Global};
+use std::process::Abort;
+use std::thread::Threads;
+
+/// The canonical text of four jobs on one resource, without its last LF.
+const CANONICAL: &str = "************************************************************************
+file with basedata            :  -
+initial value random generator:  0
+************************************************************************
+projects                      :  1
+jobs (incl. supersource/sink ):  4
+horizon                       :  5
+RESOURCES
+  - renewable                 :  1   R
+  - nonrenewable              :  0   N
+  - doubly constrained        :  0   D
+************************************************************************
+PROJECT INFORMATION:
+pronr.  #jobs rel.date duedate tardcost  MPM-Time
+1 4 0 0 0 0
+************************************************************************
+PRECEDENCE RELATIONS:
+jobnr.    #modes  #successors   successors
+1 1 2 2 3
+2 1 1 4
+3 1 1 4
+4 1 0
+************************************************************************
+REQUESTS/DURATIONS:
+jobnr. mode duration R 1
+------------------------------------------------------------------------
+1 1 0 0
+2 1 3 2
+3 1 2 2
+4 1 0 0
+************************************************************************
+RESOURCEAVAILABILITIES:
+R 1
+3
+************************************************************************";
+
+/// The text keeps its lines before a number, gets new ones, and keeps its lines from a number on.
+#[derive(Clone, Copy)]
+struct Edit<'a> {
+    before: usize,
+    new: &'a str,
+    from: usize,
+}
+
+/// Appends the lines of the canonical text from one number up to another.
+fn append_lines(text: &mut String, from: usize, end: usize) -> Result<(), AllocError> {
+    for (index, line) in CANONICAL.split('\n').enumerate() {
+        if from <= index && index < end {
+            text.push_str(line)?;
+            text.push('\n')?;
+        }
+    }
+    Ok(())
+}
+
+/// The canonical text with an edit.
+fn edited(alloc: Global, edit: &Edit<'_>) -> Result<String, AllocError> {
+    let mut text = String::new(alloc);
+    append_lines(&mut text, 0, edit.before.saturating_sub(1))?;
+    text.push_str(edit.new)?;
+    append_lines(&mut text, edit.from.saturating_sub(1), 35)?;
+    Ok(text)
+}
+
+/// Solves the canonical text with other lines in place of one, which is refused.
+fn check_edited<R: Threads + Abort + Sync + AllocGlobal>(rt: &R, edit: &Edit<'_>, told: &str) {
+    let text = edited(rt.alloc(), edit).expect(rt, "memory");
+    check_text(rt, text.as_bytes(), (Status::BadProject, told));
+}
+
+#[test]
+fn a_header_line_that_is_missing(rt: HostRuntime) {
+    let edit = Edit {
+        before: 7,
+        new: "",
+        from: 8,
+    };
+    check_edited(&rt, &edit, "bad project: code 2 line 7\n");
+}
+
+#[test]
+fn a_word_that_is_no_number(rt: HostRuntime) {
+    let edit = Edit {
+        before: 20,
+        new: "2 1 x 4\n",
+        from: 21,
+    };
+    check_edited(&rt, &edit, "bad project: code 3 line 20\n");
+}
+
+#[test]
+fn a_duration_that_is_too_long(rt: HostRuntime) {
+    let edit = Edit {
+        before: 28,
+        new: "2 1 10001 2\n",
+        from: 29,
+    };
+    check_edited(&rt, &edit, "bad project: code 4 line 28\n");
+}
+
+#[test]
+fn more_jobs_than_there_may_be(rt: HostRuntime) {
+    let edit = Edit {
+        before: 6,
+        new: "jobs (incl. supersource/sink ):  129\n",
+        from: 7,
+    };
+    check_edited(&rt, &edit, "bad project: code 4 line 6\n");
+}
+
+#[test]
+fn two_projects(rt: HostRuntime) {
+    let edit = Edit {
+        before: 5,
+        new: "projects                      :  2\n",
+        from: 6,
+    };
+    check_edited(&rt, &edit, "bad project: code 5 line 5\n");
+}
+
+#[test]
+fn a_doubly_constrained_resource(rt: HostRuntime) {
+    let edit = Edit {
+        before: 11,
+        new: "  - doubly constrained        :  1   D\n",
+        from: 12,
+    };
+    check_edited(&rt, &edit, "bad project: code 6 line 11\n");
+}
+
+#[test]
+fn another_job_than_the_next(rt: HostRuntime) {
+    let edit = Edit {
+        before: 21,
+        new: "4 1 1 4\n",
+        from: 22,
+    };
+    check_edited(&rt, &edit, "bad project: code 7 line 21\n");
+}
+
+#[test]
+fn a_word_behind_the_successors(rt: HostRuntime) {
+    let edit = Edit {
+        before: 20,
+        new: "2 1 1 4 4\n",
+        from: 21,
+    };
+    check_edited(&rt, &edit, "bad project: code 7 line 20\n");
+}
+
+#[test]
+fn another_mode_than_the_next(rt: HostRuntime) {
+    let edit = Edit {
+        before: 28,
+        new: "2 2 3 2\n",
+        from: 29,
+    };
+    check_edited(&rt, &edit, "bad project: code 8 line 28\n");
+}
+
+#[test]
+fn a_job_without_a_mode(rt: HostRuntime) {
+    let edit = Edit {
+        before: 20,
+        new: "2 0 1 4\n",
+        from: 21,
+    };
+    check_edited(&rt, &edit, "bad project: code 9 line 20\n");
+}
+
+#[test]
+fn a_successor_that_is_no_job(rt: HostRuntime) {
+    let edit = Edit {
+        before: 20,
+        new: "2 1 1 5\n",
+        from: 21,
+    };
+    check_edited(&rt, &edit, "bad project: code 10 line 20\n");
+}
+
+#[test]
+fn a_cycle(rt: HostRuntime) {
+    let edit = Edit {
+        before: 20,
+        new: "2 1 2 3 4\n3 1 2 2 4\n",
+        from: 22,
+    };
+    check_edited(&rt, &edit, "bad project: code 11 line 20\n");
+}
+
+#[test]
+fn a_text_that_ends_before_its_modes(rt: HostRuntime) {
+    let edit = Edit {
+        before: 25,
+        new: "",
+        from: 36,
+    };
+    check_edited(&rt, &edit, "bad project: code 12 line 25\n");
+}
+
+#[test]
+fn a_word_behind_the_last_job(rt: HostRuntime) {
+    let edit = Edit {
+        before: 22,
+        new: "4 1 0 9\n",
+        from: 23,
+    };
+    check_edited(&rt, &edit, "bad project: code 13 line 22\n");
+}
+
+#[test]
+fn a_line_behind_the_last_part(rt: HostRuntime) {
+    let edit = Edit {
+        before: 36,
+        new: "x\n",
+        from: 36,
+    };
+    check_edited(&rt, &edit, "bad project: code 13 line 36\n");
+}
+
+#[test]
+fn the_empty_text(rt: HostRuntime) {
+    check_text(
+        &rt,
+        b"",
+        (Status::BadProject, "bad project: code 12 line 1\n"),
+    );
+}
+
+#[test]
+fn a_text_that_is_too_long(rt: HostRuntime) {
+    let text = vec![in rt.alloc(); b' '; 4_194_305].expect(&rt, "memory");
+    check_text(
+        &rt,
+        text.as_slice(),
+        (Status::BadProject, "bad project: code 1 line 0\n"),
+    );
+}
