@@ -7,7 +7,10 @@ mod budgets;
 mod causes;
 mod frontier;
 mod leaf;
+mod least;
+mod members;
 mod node;
+mod tally;
 
 pub use branch::{Children, child, children};
 pub use frontier::eligible;
