@@ -6,4 +6,6 @@ mod rules;
 #[cfg(test)]
 mod tests;
 
-pub use rules::{executable, inefficient, least_duration, least_need, least_work};
+pub use rules::{
+    executable, inefficient, least_duration, least_need, least_need_of_all, least_work,
+};

@@ -1,5 +1,5 @@
-ghost use Rattle.std.specs.Prelude.{◌≡◌, ℕ, ◌*◌, ◌<◌, ◌≤◌, ◌↔◌, IsTrue, IfSome, IfNone};
-ghost use Rattle.rcpsp_model.specs.Project.{IsJob, IsMode, IsRenewable, IsNonrenewable, duration, request};
+ghost use Rattle.std.specs.Prelude.{◌≡◌, ℕ, ◌≤◌, ◌↔◌, sum_by, IsTrue, IfSome, IfNone};
+ghost use Rattle.rcpsp_model.specs.Project.{IsJob, IsMode, IsRenewable, IsNonrenewable, jobs};
 ghost use Rattle.rcpsp_model.specs.Chain.{IsLeast, least_duration as least_duration_of};
 ghost use Rattle.rcpsp_model.specs.Modes.{IsExecutable, IsInefficientBy, IsEfficient, least_need as least_need_of, least_work as least_work_of};
 
@@ -39,26 +39,7 @@ pub fn least_need(p: &Project, job: u8, resource: u8) -> u32
     ensures value { result ≡ least_need_of p.now job resource }
     ensures limit { result ≤ 1000000 }
 {
-    let modes = p.modes(job);
-    let mut least = p.need(job, 1, resource);
-    for mode in 1..modes {
-        let need = p.need(job, mode + 1, resource);
-        if need < least {
-            least = need;
-        }
-    }
-    least
-}
-
-/// What a job in a mode asks of a renewable resource over all its periods.
-fn work(p: &Project, job: u8, mode: u8, resource: u8) -> u64
-    requires job { IsJob p.now job }
-    requires mode { IsMode p.now job mode }
-    requires resource { IsRenewable p.now resource }
-    ensures value { result ≡ duration p.now job mode * request p.now job mode resource }
-    ensures limit { result ≤ 10000000000 }
-{
-    u64::from(p.duration(job, mode)) * u64::from(p.request(job, mode, resource))
+    p.least_need(job, resource)
 }
 
 /// The least work of a job on a renewable resource, over all its modes: periods times request, 0 to 10,000,000,000.
@@ -68,15 +49,16 @@ pub fn least_work(p: &Project, job: u8, resource: u8) -> u64
     ensures value { result ≡ least_work_of p.now job resource }
     ensures limit { result ≤ 10000000000 }
 {
-    let modes = p.modes(job);
-    let mut least = work(p, job, 1, resource);
-    for mode in 1..modes {
-        let work = work(p, job, mode + 1, resource);
-        if work < least {
-            least = work;
-        }
-    }
-    least
+    p.least_work(job, resource)
+}
+
+/// The sum over all jobs of the least that each needs of a nonrenewable resource: 0 to 128,000,000.
+pub fn least_need_of_all(p: &Project, resource: u8) -> u64
+    requires { IsNonrenewable p.now resource }
+    ensures value { result ≡ sum_by (λ j. least_need_of p.now j resource) (jobs p.now) }
+    ensures limit { result ≤ 128000000 }
+{
+    p.least_need_of_all(resource)
 }
 
 /// The lowest mode that makes a mode of a job inefficient: one that takes no more, and takes less or has the lower

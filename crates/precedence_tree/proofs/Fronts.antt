@@ -16,9 +16,6 @@ use Rattle.project_net.proofs.Ranges.{eqb-swap}
 use Rattle.precedence_tree.specs.Tally.{IsTallyOf}
 use Rattle.precedence_tree.specs.Node.{NodeState, StandsFor, HasJobs}
 
-abbrev pub no_entry : Entry
-no_entry = record { job = 0; mode = 0; start = 0 }
-
 pub In-last : {X : Type 0} (xs : List X) (x : X) → In (xs ++ x ∷ []) x
 In-last [] x = inl refl
 In-last (y ∷ ys) x = inr (In-last ys x)

@@ -11,13 +11,15 @@ use Rattle.rcpsp_model.specs.declared.parts.Entry.{Entry}
 use Rattle.rcpsp_model.specs.declared.parts.Placing.{Placing}
 use Rattle.rcpsp_model.specs.Project.{Project, IsJob, job_count, IsAcyclic}
 use Rattle.rcpsp_model.specs.Schedule.{entries, entries_from, end_of, Agrees}
-use Rattle.rcpsp_model.specs.Tree.{has_job, IsFront, IsLeaf, Completes}
+use Rattle.rcpsp_model.specs.Tree.{has_job, Follows, IsFront, IsLeaf, Completes, InTurn}
 use Rattle.rcpsp_model.proofs.Lists.{In, In-push, In-from_Contains, Contains-from_In, All-from_In, total}
 use Rattle.rcpsp_model.proofs.Entries.{same_entry, entry_at, job-from, job-below}
 use Rattle.rcpsp_model.proofs.Changed.{changed, changed-past, In-changed_other, In-changed_new}
 use Rattle.rcpsp_model.proofs.CompletesLemmas.{front-distinct}
 use Rattle.rcpsp_model.proofs.FrontLemmas.{named-in_turn, part-jobs, each, spot}
 use Rattle.rcpsp_model.proofs.TreeLemmas.{leaf_law}
+use Rattle.project_net.specs.Placings.{HaveJobsOnce}
+use Rattle.project_net.proofs.PlaceSteps.{in_turn-weaker}
 
 -- a job of a front is one of the project
 pub front-job : (P : Project) (F : List Entry) → IsFront P F → (e : Entry) → In F e → IsJob P e.job
@@ -86,77 +88,24 @@ count-from_leaf P F f leaf =
         let len = length-replicate n spot in
         (omega arith, omega arith)
 
--- a place that is set, as a job that is changed
-pub set-changed : (i k : ℕ) (p : Placing) (qs : List Placing) → set qs k p ≡ changed (i + k) p i qs
-set-changed i k p [] = refl
-set-changed i zero p (q ∷ qs) =
-    let head : eqb i (i + 0) ≡ true = eq-eqb i (i + 0) (omega arith) in
-    let rest : changed (i + 0) p (i + 1) qs ≡ qs = changed-past (i + 0) p (i + 1) qs (omega arith) in
-    sym (ap (λ (b : Bool). cond b p q ∷ changed (i + 0) p (i + 1) qs) head ∙ ap (λ (r : List Placing). p ∷ r) rest)
-set-changed i (suc k) p (q ∷ qs) =
-    let head : eqb i (i + suc k) ≡ false = ne_eqb i (i + suc k) (λ w. omega arith) in
-    let ih : set qs k p ≡ changed (i + 1 + k) p (i + 1) qs = set-changed (i + 1) k p qs in
-    let job : i + 1 + k ≡ i + suc k = omega arith in
-    ap (λ (r : List Placing). q ∷ r) (ih ∙ ap (λ (j : ℕ). changed j p (i + 1) qs) job) ∙ sym (ap (λ (b : Bool). cond b p q ∷ changed (i + suc k) p (i + 1) qs) head)
-
-pub In-take : {X : Type 0} (xs : List X) (i : ℕ) (x : X) → In (take i xs) x → In xs x
-In-take [] i x m = elim i as (λ k. In (take k []) x → ⊥) [ zero ↦ λ n. n | suc k ↦ λ n. n ] m
-In-take (y ∷ ys) zero x m = absurd m
-In-take (y ∷ ys) (suc i) x (inl e) = inl e
-In-take (y ∷ ys) (suc i) x (inr m) = inr (In-take ys i x m)
-
--- the entries so far have their places in the schedule
-abbrev pub FilledTo : List Entry → ℕ → List Placing → Type 0
-FilledTo F i s = (e : Entry) → In (take i F) e → In (entries s) e
-
--- one entry more has its place
-pub filled-more : (P : Project) (F : List Entry) (i : ℕ) (d : Entry) (s new : List Placing) → IsFront P F → i < length F → length s ≡ job_count P →
-    new ≡ set s ((get_or F i d).job - 1) (record { mode = (get_or F i d).mode; start = (get_or F i d).start }) → FilledTo F i s → FilledTo F (i + 1) new
-filled-more P F i d s new f l size same h e m =
-    let x = get_or F i d in
-    let here = In-from_Contains F x (Contains-get_or F i d l) in
-    let job = front-job P F f x here in
-    let p : Placing = record { mode = x.mode; start = x.start } in
-    let change : new ≡ changed x.job p 1 s = same ∙ set-changed 1 (x.job - 1) p s ∙ ap (λ (j : ℕ). changed j p 1 s) (let low = job.0 in let e : 1 + (x.job - 1) ≡ x.job = omega arith in e) in
-    let at = entry_at 1 s x.job job.0 (let high = job.1 in omega arith) in
-    let new_one : In (entries (changed x.job p 1 s)) x = In-changed_new x.job p 1 s at.0 at.1 at.2 in
-    subst (λ (r : List Placing). In (entries r) e) (sym change) (elim (In-push (take i F) x e (subst (λ (xs : List Entry). In xs e) (take_more F i d l) m)) [
-      | inl old ↦ elim (cases_eq e.job x.job) [
-        | inl equal ↦ subst (λ (z : Entry). In (entries (changed x.job p 1 s)) z) (same_entry F (front-distinct P F f) x e here (In-take F i e old) (sym equal)) new_one
-        | inr other ↦ In-changed_other x.job p 1 s e (h e old) other
-      ]
-      | inr is ↦ subst (λ (z : Entry). In (entries (changed x.job p 1 s)) z) is new_one
-    ])
-
 -- What has a leaf's entries, and no more placings than jobs, is the schedule of the leaf.
 pub record IsScheduleOf (P : Project) (F : List Entry) (s : List Placing) : Type 0 where
   pub completes : Completes P F s
   pub end : end_of P (entries s) ≡ end_of P F
 
-pub leaf-schedule : (P : Project) (F : List Entry) (s : List Placing) → IsAcyclic P → IsFront P F → IsLeaf P F → length s ≡ job_count P → Agrees s F → IsScheduleOf P F s
+leaf-schedule : (P : Project) (F : List Entry) (s : List Placing) → IsAcyclic P → IsFront P F → IsLeaf P F → length s ≡ job_count P → Agrees s F → IsScheduleOf P F s
 leaf-schedule P F s a f leaf size agrees =
     let law = leaf_law P F a f leaf in
     let is : s ≡ law.0.schedule = law.0.only s size agrees in
     record { completes = (law.1 s).1 is; end = ap (λ (r : List Placing). end_of P (entries r)) is ∙ law.0.end }
 
--- an item of a front has a job of the project
-pub item-job : (P : Project) (F : List Entry) (i : ℕ) (d : Entry) → IsFront P F → i < length F → IsJob P (get_or F i d).job
-item-job P F i d f l = front-job P F f (get_or F i d) (In-from_Contains F (get_or F i d) (Contains-get_or F i d l))
+-- the schedule that has a leaf's entries
+pub schedule-of : (P : Project) (F es : List Entry) (n : ℕ) (s : List Placing) → IsAcyclic P → IsFront P F → IsLeaf P F → es ≡ F → n ≡ job_count P → length s ≡ n → Agrees s es → IsScheduleOf P F s
+schedule-of P F es n s a f leaf front count size agrees = leaf-schedule P F s a f leaf (size ∙ count) (subst (Agrees s) front agrees)
 
--- what has a place for every entry agrees with the front
-pub agrees-filled : (F : List Entry) (i : ℕ) (s : List Placing) → length F ≤ i → FilledTo F i s → Agrees s F
-agrees-filled F i s all h =
-    All-from_In (Contains (entries s)) F (λ e m. Contains-from_In (entries s) e (h e (subst (λ (xs : List Entry). In xs e) (sym (take-all F i all)) m)))
-  where
-    take-all : (xs : List Entry) (n : ℕ) → length xs ≤ n → take n xs ≡ xs
-    take-all [] zero l = refl
-    take-all [] (suc n) l = refl
-    take-all (x ∷ xs) zero l = absurd (let z : suc (length xs) ≤ 0 = l in omega arith)
-    take-all (x ∷ xs) (suc n) l = ap (λ (ys : List Entry). x ∷ ys) (take-all xs n (let z : suc (length xs) ≤ suc n = l in omega arith))
-
--- the schedule made of the places that were filled by a leaf's entries
-pub schedule-of : (P : Project) (F es : List Entry) (r xs ys : List Placing) (n : ℕ) → IsAcyclic P → IsFront P F → IsLeaf P F → es ≡ F → r ≡ take n (xs ++ ys) → n ≡ length xs → n ≡ job_count P →
-    Agrees xs es → IsScheduleOf P F r
-schedule-of P F es r xs ys n a f leaf front is size count agrees =
-    let same : r ≡ xs = is ∙ ap (λ (k : ℕ). take k (xs ++ ys)) size ∙ take-append_seam xs ys in
-    leaf-schedule P F r a f leaf (ap (λ (q : List Placing). length q) same ∙ sym size ∙ count) (subst (λ (q : List Placing). Agrees q F) (sym same) (subst (Agrees xs) front agrees))
+-- the entries of a front say where each job stands
+pub front-once : (P : Project) (F : List Entry) → IsFront P F → HaveJobsOnce (job_count P) F
+front-once P F f = record {
+  jobs = All-from_In (λ (e : Entry). IsJob P e.job) F (front-job P F f);
+  once = in_turn-weaker (Follows P) (λ before e. has_job before e.job ≡ false) (λ before e next. next.eligible.unplaced) [] F f;
+}

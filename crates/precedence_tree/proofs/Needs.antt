@@ -17,25 +17,6 @@ use Rattle.rcpsp_model.proofs.FrontLemmas.{named-in_turn, in_turn}
 use Rattle.rcpsp_model.proofs.ChildLemmas.{used-start, rest_need-start}
 use Rattle.precedence_tree.specs.Tally.{least_used}
 
-total-numbers : (f : ℕ → ℕ) (i n : ℕ) → total f (numbers_from i (suc n)) ≡ total f (numbers_from i n) + f (i + n)
-total-numbers f i zero = let same : f (i + 0) ≡ f i = ap f (let e : i + 0 ≡ i = omega arith in e) in omega arith
-total-numbers f i (suc n) =
-    let ih = total-numbers f (i + 1) n in
-    let same : f (i + 1 + n) ≡ f (i + suc n) = ap f (let e : i + 1 + n ≡ i + suc n = omega arith in e) in
-    omega arith
-
--- the sum of a number over the jobs up to n
-abbrev pub sum_upto : (ℕ → ℕ) → ℕ → ℕ
-sum_upto f n = sum_by f (numbers_from 1 n)
-
-pub sum_upto-more : (f : ℕ → ℕ) (n : ℕ) → sum_upto f (n + 1) ≡ sum_upto f n + f (n + 1)
-sum_upto-more f n =
-    let new : sum_upto f (n + 1) ≡ total f (numbers_from 1 (suc n)) = ap (sum_upto f) (let e : n + 1 ≡ suc n = omega arith in e) ∙ sum_by-total f (numbers_from 1 (suc n)) in
-    let old = sum_by-total f (numbers_from 1 n) in
-    let push = total-numbers f 1 n in
-    let same : f (1 + n) ≡ f (n + 1) = ap f (let e : 1 + n ≡ n + 1 = omega arith in e) in
-    omega arith
-
 -- Entries of distinct jobs, each from 1 to n.
 pub record AreAmong (n : ℕ) (F : List Entry) : Type 0 where
   pub distinct : DistinctJobs F

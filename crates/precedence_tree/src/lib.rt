@@ -7,7 +7,6 @@ mod budgets;
 mod causes;
 mod frontier;
 mod leaf;
-mod least;
 mod members;
 mod node;
 mod tally;

@@ -9,8 +9,8 @@ ghost use Rattle.rcpsp_model.specs.Bounds.{ready};
 ghost use Rattle.precedence_tree.specs.Tally.{finish_of};
 ghost use Rattle.precedence_tree.specs.Node.{StandsFor};
 
-use crate::least::least_need_of_all;
 use crate::tally::{Tally, latest};
+use mode_rules::least_need_of_all;
 use profiles::Profile;
 use project_net::Project;
 use rcpsp_model::Entry;

@@ -8,6 +8,8 @@ pub mod Pairs
 pub mod Via
 pub mod Cycles
 pub mod Taken
+pub mod LeastLemmas
+pub mod TableLemmas
 pub mod TailLemmas
 pub mod EndLemmas
 pub mod RankLemmas
@@ -16,3 +18,4 @@ pub mod Appended
 pub mod HorizonLemmas
 pub mod Listed
 pub mod PrintLemmas
+pub mod PlaceSteps

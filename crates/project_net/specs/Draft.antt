@@ -1,7 +1,8 @@
 -- Drafts of projects: the project that a draft describes, and the faults that it may have.
-use Rattle.std.specs.Prelude.{ℕ, ◌≤◌, ◌==◌, Bool, List, [], length, map, filter, sum_by, All}
-use Rattle.std.specs.List.{list_any, range_with_len}
+use Rattle.std.specs.Prelude.{ℕ, ◌≤◌, List, [], length, map, filter, sum_by, All}
+use Rattle.std.specs.List.{range_with_len}
 use Rattle.rcpsp_model.specs.Project.{Project, Activity, IsModeWithinLimits}
+use Rattle.rcpsp_model.specs.Rank.{is_among}
 use Rattle.project_net.specs.declared.draft.Draft.{Draft}
 use Rattle.project_net.specs.declared.draft.DraftJob.{DraftJob}
 
@@ -9,13 +10,9 @@ use Rattle.project_net.specs.declared.draft.DraftJob.{DraftJob}
 abbrev pub no_job : DraftJob
 no_job = record { modes = []; successors = [] }
 
--- whether the number is in the list
-abbrev pub has : List ℕ → ℕ → Bool
-has js j = list_any (λ i. i == j) js
-
 -- a job among n: its modes, and in ascending order the jobs that it names as successors
 abbrev pub activity_of : ℕ → DraftJob → Activity
-activity_of n job = record { modes = job.modes; successors = filter (has job.successors) (range_with_len 1 n) }
+activity_of n job = record { modes = job.modes; successors = filter (is_among job.successors) (range_with_len 1 n) }
 
 -- the project that a draft describes
 abbrev pub project_of : Draft → Project

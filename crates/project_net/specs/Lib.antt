@@ -1,9 +1,11 @@
 pub mod Draft
 pub mod Order
 pub mod Refusal
+pub mod Least
 pub mod Tails
 pub mod Flat
 pub mod Flatten
 pub mod Prepared
 pub mod Canonical
 pub mod Printing
+pub mod Placings

@@ -1,14 +1,17 @@
 -- What a project keeps beside its network.
 use Rattle.std.specs.Prelude.{ℕ, List}
 use Rattle.rcpsp_model.specs.Project.{Project, IsProject}
-use Rattle.project_net.specs.Order.{AreRanks, IsLowestFirst, IsTopological}
-use Rattle.project_net.specs.Tails.{AreLeastDurations, AreTails}
+use Rattle.rcpsp_model.specs.Rank.{IsLowestFirst}
+use Rattle.project_net.specs.declared.least.LeastValues.{LeastValues}
+use Rattle.project_net.specs.Order.{AreRanks, IsTopological}
+use Rattle.project_net.specs.Tails.{AreTails}
+use Rattle.project_net.specs.Least.{AreLeastValues}
 
--- a project with its jobs in order, their least durations, tails and ranks
-pub record IsPrepared (P : Project) (order durations tails places : List ℕ) : Type 0 where
+-- a project with its jobs in order, what they take at least, their tails and ranks
+pub record IsPrepared (P : Project) (order : List ℕ) (values : LeastValues) (tails places : List ℕ) : Type 0 where
   pub project : IsProject P
   pub lowest_first : IsLowestFirst P order
   pub topological : IsTopological P order
-  pub least : AreLeastDurations P durations
+  pub least : AreLeastValues P values
   pub longest : AreTails P tails
   pub ranks : AreRanks P places

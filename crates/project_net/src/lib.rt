@@ -6,6 +6,7 @@ mod chains;
 mod draft;
 mod flatten;
 mod horizon;
+mod least;
 mod mode_table;
 mod network;
 mod order;

@@ -1,7 +1,8 @@
-ghost use Rattle.std.specs.Prelude.{◌≡◌, ℕ, ◌≤◌, ◌↔◌, IsTrue, length, All, IfOk, IfErr, OnOk};
+ghost use Rattle.std.specs.Prelude.{◌≡◌, ℕ, ◌≤◌, ◌↔◌, IsTrue, length, sum_by, All, IfOk, IfErr, OnOk};
 
-use crate::chains::{least_durations, tails};
+use crate::chains::tails;
 use crate::draft::{BuildRefusal, Draft};
+use crate::least::{LeastValues, least_values, place_in};
 use crate::network::Network;
 use crate::order::{jobs_in_order, ranks};
 use crate::reach::lowest_on_cycle;
@@ -18,7 +19,7 @@ use std::marker::Model;
 pub struct Project {
     network: Network,
     order: Vec<u8>,
-    least_durations: Vec<u32>,
+    least: LeastValues,
     tails: Vec<u32>,
     ranks: Vec<u8>,
 }
@@ -31,16 +32,18 @@ impl Model for Project {
 
     ghost view = { λ p. p.network };
 
-    ghost invariant = { λ p. IsPrepared p.network p.order.items p.least_durations.items p.tails.items p.ranks.items };
+    ghost invariant = { λ p. IsPrepared p.network p.order.items p.least p.tails.items p.ranks.items };
 }
 
 impl Project {
-    ghost use Rattle.rcpsp_model.specs.Project.{IsProject, IsAcyclic, IsJob, IsMode, IsRenewable, IsNonrenewable, job_count, modes_of, renewables, nonrenewables, duration, request, need, capacity, budget, is_before};
+    ghost use Rattle.rcpsp_model.specs.Project.{IsProject, IsAcyclic, IsJob, IsMode, IsRenewable, IsNonrenewable, job_count, jobs, modes_of, renewables, nonrenewables, duration, request, need, capacity, budget, is_before};
     ghost use Rattle.rcpsp_model.specs.Schedule.{end_of, entries};
     ghost use Rattle.rcpsp_model.specs.Chain.{least_duration, IsTail};
+    ghost use Rattle.rcpsp_model.specs.Modes.{least_need, least_work};
     ghost use Rattle.sched_base.specs.JobSet.{member};
     ghost use Rattle.project_net.specs.Draft.{project_of};
-    ghost use Rattle.project_net.specs.Order.{IsLowestFirst, IsRank, IsTopological};
+    ghost use Rattle.rcpsp_model.specs.Rank.{IsLowestFirst, IsRank};
+    ghost use Rattle.project_net.specs.Order.{IsTopological};
     ghost use Rattle.project_net.specs.Refusal.{IsRefusal, IsSound};
 
     /// The project of a network without a cycle.
@@ -50,13 +53,18 @@ impl Project {
     {
         network.known();
         let order = jobs_in_order(alloc, &network)?;
-        let durations = least_durations(alloc, &network)?;
-        let tails = tails(alloc, &network, order.as_slice(), durations.as_slice())?;
+        let least = least_values(alloc, &network)?;
+        let tails = tails(
+            alloc,
+            &network,
+            order.as_slice(),
+            least.durations.as_slice(),
+        )?;
         let ranks = ranks(alloc, &network, order.as_slice())?;
         Ok(Project {
             network,
             order,
-            least_durations: durations,
+            least,
             tails,
             ranks,
         })
@@ -192,7 +200,38 @@ impl Project {
         ensures value { result ≡ least_duration self.now job }
         ensures limit { result ≤ 10000 }
     {
-        self.least_durations[job as usize - 1]
+        self.least.durations[job as usize - 1]
+    }
+
+    /// The least that a job needs of a nonrenewable resource, over all its modes: 0 to 1,000,000.
+    pub fn least_need(&self, job: u8, resource: u8) -> u32
+        requires job { IsJob self.now job }
+        requires resource { IsNonrenewable self.now resource }
+        ensures value { result ≡ least_need self.now job resource }
+        ensures limit { result ≤ 1000000 }
+    {
+        let place = place_in(self.network.nonrenewables(), job, resource);
+        self.least.needs[place]
+    }
+
+    /// The least work of a job on a renewable resource, over all its modes: periods times request, 0 to 10,000,000,000.
+    pub fn least_work(&self, job: u8, resource: u8) -> u64
+        requires job { IsJob self.now job }
+        requires resource { IsRenewable self.now resource }
+        ensures value { result ≡ least_work self.now job resource }
+        ensures limit { result ≤ 10000000000 }
+    {
+        let place = place_in(self.network.renewables(), job, resource);
+        self.least.works[place]
+    }
+
+    /// The sum over all jobs of the least that each needs of a nonrenewable resource: 0 to 128,000,000.
+    pub fn least_need_of_all(&self, resource: u8) -> u64
+        requires { IsNonrenewable self.now resource }
+        ensures value { result ≡ sum_by (λ j. least_need self.now j resource) (jobs self.now) }
+        ensures limit { result ≤ 128000000 }
+    {
+        self.least.needs_of_all[resource as usize - 1]
     }
 
     /// The greatest sum of least durations over the chains of successors that begin with a job, that job included: 0 to

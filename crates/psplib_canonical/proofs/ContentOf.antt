@@ -6,7 +6,7 @@ use Rattle.std.proofs.lemmas.List.Elements.{All-head, All-tail, All-weaker, recu
 use Rattle.std.proofs.lemmas.List.Sums.{sum_by-cons}
 use Rattle.rcpsp_model.specs.Project.{Project, Activity, IsActivityWithinLimits, IsModeWithinLimits, IsWithinLimits, job_count, numbers_from}
 use Rattle.rcpsp_model.specs.declared.parts.Mode.{Mode}
-use Rattle.project_net.specs.Draft.{has}
+use Rattle.rcpsp_model.specs.Rank.{is_among}
 use Rattle.project_net.proofs.Listed.{ascending-found}
 use Rattle.psplib_layout.specs.declared.content.Header.{Header}
 use Rattle.psplib_layout.specs.declared.content.JobRow.{JobRow}
@@ -66,8 +66,8 @@ module _ (n R N : ℕ) where
   pub few_successors : (a : Activity) → IsWithin n R N a → length a.successors ≤ n
   few_successors a w =
       let same : ascending n a.successors ≡ a.successors = same_successors a w in
-      let few = length-filter (has a.successors) 1 n in
-      let size : length (filter (has a.successors) (numbers_from 1 n)) ≡ length a.successors = ap (λ (xs : List ℕ). length xs) same in
+      let few = length-filter (is_among a.successors) 1 n in
+      let size : length (filter (is_among a.successors) (numbers_from 1 n)) ≡ length a.successors = ap (λ (xs : List ℕ). length xs) same in
       omega arith
 
   row_within : (a : Activity) → n ≤ 128 → IsWithin n R N a → IsRow n (row_of a)

@@ -7,7 +7,8 @@ use Rattle.rcpsp_model.specs.Project.{Activity, numbers_from}
 use Rattle.psplib_layout.specs.declared.content.JobRow.{JobRow}
 use Rattle.psplib_layout.specs.Layout.{activities_of}
 use Rattle.project_net.specs.declared.draft.DraftJob.{DraftJob}
-use Rattle.project_net.specs.Draft.{has, activity_of}
+use Rattle.rcpsp_model.specs.Rank.{is_among}
+use Rattle.project_net.specs.Draft.{activity_of}
 use Rattle.psplib_reader.specs.Drafted.{drafted}
 
 pub drafted_none : (rows : List JobRow) → drafted rows [] ≡ []
@@ -43,5 +44,5 @@ pub activities_same : (n : ℕ) (rows : List JobRow) (modes : List (List Mode)) 
 activities_same n [] modes = refl
 activities_same n (row ∷ rows) [] = refl
 activities_same n (row ∷ rows) (ms ∷ more) =
-    ap (λ (xs : List ℕ). (let a : Activity = record { modes = ms; successors = filter (has row.successors) xs } in a) ∷ map (activity_of n) (drafted rows more)) (numbers_same 1 n)
-    ∙ ap (λ (as' : List Activity). (let a : Activity = record { modes = ms; successors = filter (has row.successors) (numbers_from 1 n) } in a) ∷ as') (activities_same n rows more)
+    ap (λ (xs : List ℕ). (let a : Activity = record { modes = ms; successors = filter (is_among row.successors) xs } in a) ∷ map (activity_of n) (drafted rows more)) (numbers_same 1 n)
+    ∙ ap (λ (as' : List Activity). (let a : Activity = record { modes = ms; successors = filter (is_among row.successors) (numbers_from 1 n) } in a) ∷ as') (activities_same n rows more)

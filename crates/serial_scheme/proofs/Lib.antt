@@ -3,4 +3,3 @@ pub mod JobSteps
 pub mod EntrySteps
 pub mod PlacedLemmas
 pub mod PlanFacts
-pub mod PlaceSteps

@@ -1,8 +1,8 @@
 -- What holds of entries that were placed in turn.
-use Rattle.std.proofs.Common.{◌≡◌, ℕ, ◌+◌, ◌*◌, ◌<◌, ◌≤◌, max, inl, inr, arith, refl, sym, ap, subst, ◌∙◌, List, [], ◌∷◌, ◌++◌, length, length-append, append_assoc, replicate, Bool, true, false, cond, eqb, ◌||◌}
+use Rattle.std.proofs.Common.{◌≡◌, ℕ, ◌+◌, ◌*◌, ◌<◌, ◌≤◌, max, inl, inr, arith, refl, sym, ap, subst, ◌∙◌, List, [], ◌∷◌, ◌++◌, length, length-append, replicate, Bool, true, false, cond, eqb, ◌||◌}
 use Rattle.std.specs.Prelude.{filter, Option, Some, IfSome}
 use Rattle.std.proofs.lemmas.Bool.{cases_eq, eq-eqb, ne_eqb}
-use Rattle.std.proofs.lemmas.List.{append-nil, length-replicate}
+use Rattle.std.proofs.lemmas.List.{length-replicate}
 use Rattle.sched_base.specs.declared.job_set.JobSet.{JobSet}
 use Rattle.sched_base.specs.JobSet.{member}
 use Rattle.rcpsp_model.specs.declared.parts.Entry.{Entry}
@@ -19,20 +19,14 @@ use Rattle.rcpsp_model.proofs.Usage.{finish-le-end, end-le, calm_law}
 use Rattle.rcpsp_model.proofs.Successors.{before-job}
 use Rattle.rcpsp_model.proofs.FrontLemmas.{in_turn, keeps-push, end-push, duration-limit, fits-past_end, fits-executable, part-jobs, spot, each}
 use Rattle.rcpsp_model.proofs.Sound.{sound-push}
+use Rattle.rcpsp_model.proofs.TreeLemmas.{in_turn-push}
 use Rattle.rcpsp_model.proofs.PlanLemmas.{IsPlan}
+use Rattle.project_net.specs.Placings.{HaveJobsOnce}
+use Rattle.project_net.proofs.PlaceSteps.{in_turn-weaker}
 use Rattle.profiles.specs.Placed.{Placed, IsProfileOf}
 use Rattle.profiles.specs.Room.{FitsFrom}
 use Rattle.serial_scheme.specs.Priority.{IsOpen, IsMostUrgent, done_at}
 use Rattle.serial_scheme.proofs.JobSteps.{all-placed}
-
--- a weaker relation holds in turn too
-pub in_turn-weaker : {X : Type 0} (R S : List X → X → Type 0) → ((F : List X) (x : X) → R F x → S F x) → (F es : List X) → InTurn R F es → InTurn S F es
-in_turn-weaker R S w F [] t = tt
-in_turn-weaker R S w F (e ∷ es) t = (w F e t.0, in_turn-weaker R S w (F ++ e ∷ []) es t.1)
-
-pub in_turn-push : {X : Type 0} (R : List X → X → Type 0) (F es : List X) (x : X) → InTurn R F es → R (F ++ es) x → InTurn R F (es ++ x ∷ [])
-in_turn-push R F [] x t r = (subst (λ G. R G x) (append-nil F) r, tt)
-in_turn-push R F (e ∷ es) x t r = (t.0, in_turn-push R (F ++ e ∷ []) es x t.1 (subst (λ G. R G x) (sym (append_assoc F (e ∷ []) es)) r))
 
 pub as-placed : (P : Project) (Rule : ModeRule) (F : List Entry) (e : Entry) → IsScheduledNext P Rule F e → IsPlacedInTurn P F e
 as-placed P Rule F e r = record { eligible = r.urgent.eligible; mode = r.mode; can_run = r.start.attained }
@@ -118,6 +112,13 @@ ends-soon P w Rule F t = in_turn (IsScheduledNext P Rule) (EndsSoon P) (λ G e h
 
 pub scheduled-placing : (P : Project) → IsAcyclic P → (Rule : ModeRule) (F : List Entry) → InTurn (IsScheduledNext P Rule) [] F → IsPlacing P F
 scheduled-placing P a Rule F t = placing-of P a F (in_turn-weaker (IsScheduledNext P Rule) (IsPlacedInTurn P) (as-placed P Rule) [] F t)
+
+-- entries that were scheduled in turn say where each job stands
+pub scheduled-once : (P : Project) → IsAcyclic P → (Rule : ModeRule) (F : List Entry) → InTurn (IsScheduledNext P Rule) [] F → HaveJobsOnce (job_count P) F
+scheduled-once P a Rule F t = record {
+  jobs = All-from_In (λ (e : Entry). IsJob P e.job) F (scheduled-placing P a Rule F t).jobs;
+  once = in_turn-weaker (IsScheduledNext P Rule) (λ before e. has_job before e.job ≡ false) (λ before e next. next.urgent.eligible.unplaced) [] F t;
+}
 
 pub scheduled-end : (P : Project) → IsProject P → (Rule : ModeRule) (F : List Entry) → InTurn (IsScheduledNext P Rule) [] F → end_of P F ≤ 1290000
 unfolding job_count

@@ -19,7 +19,8 @@ use Rattle.rcpsp_model.proofs.Merged.{same-placings}
 use Rattle.serial_scheme.specs.declared.mode_rule.ModeRule.{ModeRule}
 use Rattle.serial_scheme.specs.declared.mode_rule.ModeRule.TheVariants.{Shortest, Cheapest}
 use Rattle.serial_scheme.specs.Rules.{HasMode, SomeHasNoMode}
-use Rattle.serial_scheme.proofs.PlacedLemmas.{in_turn-weaker, as-placed, length-placing, scheduled-placing, ends-soon}
+use Rattle.project_net.proofs.PlaceSteps.{in_turn-weaker}
+use Rattle.serial_scheme.proofs.PlacedLemmas.{as-placed, length-placing, scheduled-placing, ends-soon}
 
 pub has_mode-is : (rule : ModeRule) (P : Project) (j m : ℕ) → HasMode rule P j m → IsMode P j m × IsExecutable P j m
 has_mode-is Shortest P j m h = (h.mode, h.executable)

@@ -4,7 +4,6 @@
 
 mod budgets;
 mod mode_rule;
-mod outcome;
 mod plan;
 mod priority;
 mod scheme;

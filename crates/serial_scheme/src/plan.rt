@@ -7,7 +7,6 @@ ghost use Rattle.serial_scheme.specs.Rules.{HasMode};
 
 use crate::budgets::keeps_budgets;
 use crate::mode_rule::ModeRule;
-use crate::outcome::schedule_of;
 use crate::scheme::serial_plan;
 use project_net::{Project, Schedule};
 use sched_base::NoMemory;
@@ -26,7 +25,7 @@ fn plan_by(alloc: Global, p: &Project, rule: ModeRule) -> Result<Option<Schedule
     if !keeps_budgets(p, entries) {
         return Ok(None);
     }
-    let schedule = schedule_of(alloc, p, entries)?;
+    let schedule = Schedule::of_entries(alloc, p.jobs(), entries)?;
     Ok(Some(schedule))
 }
 

@@ -1,12 +1,12 @@
-use Rattle.std.proofs.Common.{arith, refl, subst, sym, ap, List, [], length}
+use Rattle.std.proofs.Common.{ℕ, arith, refl, subst, sym, ap, List, length, ◌∙◌}
 use Rattle.std.proofs.lemmas.Bool.{false≢true}
 use Rattle.rcpsp_model.specs.declared.parts.Entry.{Entry}
 use Rattle.rcpsp_model.specs.Schedule.{AreOf, KeepsBudgets, Agrees}
-use Rattle.rcpsp_model.specs.Tree.{InTurn}
-use Rattle.rcpsp_model.specs.Plan.{IsSerialPlan, IsScheduledNext, IsPlacedInTurn}
+use Rattle.rcpsp_model.specs.Plan.{IsSerialPlan}
+use Rattle.project_net.specs.Placings.{HaveJobsOnce}
 use Rattle.profiles.specs.Placed.{Placed}
 use Rattle.serial_scheme.specs.Rules.{HasMode, SomeHasNoMode}
-use Rattle.serial_scheme.proofs.PlacedLemmas.{as-placed, in_turn-weaker, length-placing, scheduled-of, scheduled-placing}
+use Rattle.serial_scheme.proofs.PlacedLemmas.{length-placing, scheduled-of, scheduled-once, scheduled-placing}
 use Rattle.serial_scheme.proofs.PlanFacts.{some-case, none-case, no_plan-without_mode, no_plan-over_budget, infeasible-without_mode, plan-by}
 use Rattle.serial_scheme.proofs.plan.plan_by.Goals as goal
 
@@ -40,17 +40,17 @@ returns-then-not-keeps_budgets-clause-plan c =
     no_plan-over_budget c.args.rule P c.known.ensures.acyclic c.in-Some.placed.entries serial
     (λ keeps. false≢true (c.if-not-keeps_budgets.ensures.1 (subst (KeepsBudgets P) (sym c.entries-entries.ensures) keeps)))
 
-pub schedule_of-requires : goal.schedule_of-requires
-schedule_of-requires c =
+pub of_entries-requires : goal.of_entries-requires
+of_entries-requires c =
     let P = c.args.p.now in
     let serial = some-case (λ (held : Placed). IsSerialPlan P (HasMode c.args.rule) held.entries) (SomeHasNoMode P) c.in_ok-placed.field-0 c.in-Some.placed c.in-Some.is c.in_ok-placed.ensures in
-    subst (λ (es : List Entry). InTurn (IsPlacedInTurn P) [] es) (sym c.entries-entries.ensures)
-    (in_turn-weaker (IsScheduledNext P (HasMode c.args.rule)) (IsPlacedInTurn P) (as-placed P (HasMode c.args.rule)) [] c.in-Some.placed.entries serial.in_turn)
+    subst (λ (es : List Entry). HaveJobsOnce c.jobs.result es) (sym c.entries-entries.ensures)
+    (subst (λ (n : ℕ). HaveJobsOnce n c.in-Some.placed.entries) (sym c.jobs.ensures.value) (scheduled-once P c.known.ensures.acyclic (HasMode c.args.rule) c.in-Some.placed.entries serial.in_turn))
 
 pub returns-clause-plan : goal.returns-clause-plan
 returns-clause-plan c =
     let P = c.args.p.now in
     let serial = some-case (λ (held : Placed). IsSerialPlan P (HasMode c.args.rule) held.entries) (SomeHasNoMode P) c.in_ok-placed.field-0 c.in-Some.placed c.in-Some.is c.in_ok-placed.ensures in
     plan-by c.args.rule P c.in-Some.placed.entries c.in_ok-schedule.schedule serial
-    (subst (KeepsBudgets P) c.entries-entries.ensures (c.if-not-keeps_budgets.ensures.0 refl)) c.in_ok-schedule.ensures.jobs
+    (subst (KeepsBudgets P) c.entries-entries.ensures (c.if-not-keeps_budgets.ensures.0 refl)) (c.in_ok-schedule.ensures.jobs ∙ c.jobs.ensures.value)
     (subst (Agrees c.in_ok-schedule.schedule) c.entries-entries.ensures c.in_ok-schedule.ensures.agrees)

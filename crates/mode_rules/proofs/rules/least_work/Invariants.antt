@@ -1,8 +1,0 @@
-use Rattle.std.proofs.Common.{◌≡◌, ◌≤◌, take}
-use Rattle.rcpsp_model.specs.Project.{modes_of}
-use Rattle.rcpsp_model.specs.Chain.{least_over}
-use Rattle.mode_rules.proofs.Least.{work_of}
-use Rattle.mode_rules.proofs.rules.least_work.Given as goal
-
-abbrev pub invariant-loop-mode : goal.invariant-loop-mode
-invariant-loop-mode l = (l.least ≡ least_over (work_of l.resource) (take l.mode (modes_of l.p l.job))) × (l.least ≤ 10000000000)
