@@ -1,39 +1,20 @@
 -- A front with one more entry, and what a node keeps of it.
-use Rattle.std.proofs.Common.{◌≡◌, ℕ, ◌+◌, ◌<◌, ◌≤◌, max, arith, refl, sym, ap, subst, ◌∙◌, inl, inr, List, [], ◌∷◌, ◌++◌, length, get_or, take, cond, Bool, true, false, eqb, ◌||◌}
-use Rattle.std.specs.Prelude.{◌↔◌, filter, Option, Some, None, IfSome}
-use Rattle.std.proofs.lemmas.List.{append-nil}
-use Rattle.std.proofs.lemmas.List.Elements.{filter_more, All-get_or}
+use Rattle.std.proofs.Common.{◌≡◌, ℕ, ◌+◌, ◌≤◌, max, arith, refl, sym, ap, subst, ◌∙◌, inl, inr, List, [], ◌∷◌, ◌++◌, length, Bool, true, false, eqb, ◌||◌}
+use Rattle.std.specs.Prelude.{◌↔◌, Option, Some, None, IfSome}
 use Rattle.std.proofs.lemmas.Bool.{cases_eq, or_cases, or_left, or_right, eqb-true, eq-eqb}
 use Rattle.sched_base.specs.declared.job_set.JobSet.{JobSet}
 use Rattle.sched_base.specs.JobSet.{member}
 use Rattle.rcpsp_model.specs.declared.parts.Entry.{Entry}
 use Rattle.rcpsp_model.specs.Project.{Project, IsJob, IsWithinLimits, IsAcyclic, is_before}
 use Rattle.rcpsp_model.specs.Schedule.{finish, end_of, IsOf, AreOf, KeepsCapacities}
-use Rattle.rcpsp_model.specs.Tree.{has_job, last_start, IsFront, IsEligible, Follows}
+use Rattle.rcpsp_model.specs.Tree.{has_job, IsFront, IsEligible, Follows}
 use Rattle.rcpsp_model.proofs.Lists.{In, In-All}
 use Rattle.rcpsp_model.proofs.FrontLemmas.{end-push, front-of, front-keeps, length-front}
 use Rattle.rcpsp_model.proofs.TreeLemmas.{front-push}
 use Rattle.profiles.specs.Placed.{Placed, IsProfileOf}
 use Rattle.project_net.proofs.Ranges.{eqb-swap}
+use Rattle.precedence_tree.specs.Tally.{IsTallyOf}
 use Rattle.precedence_tree.specs.Node.{NodeState, StandsFor, HasJobs}
-
-abbrev pub no_entry : Entry
-no_entry = record { job = 0; mode = 0; start = 0 }
-
-abbrev pub item : List Entry → ℕ → Entry
-item es i = get_or es i no_entry
-
--- the greatest finish of the entries that pass a test, one entry further
-pub end-filter_more : (P : Project) (p : Entry → Bool) (es : List Entry) (i : ℕ) (d : Entry) → i < length es →
-    end_of P (filter p (take (i + 1) es)) ≡ cond (p (get_or es i d)) (max (end_of P (filter p (take i es))) (finish P (get_or es i d))) (end_of P (filter p (take i es)))
-end-filter_more P p es i d l =
-    let e = get_or es i d in
-    let old = filter p (take i es) in
-    ap (end_of P) (filter_more p es i d l) ∙
-    elim (p e) as (λ b. end_of P (old ++ cond b (e ∷ []) []) ≡ cond b (max (end_of P old) (finish P e)) (end_of P old)) [
-      | true ↦ end-push P old e
-      | false ↦ ap (end_of P) (append-nil old)
-    ]
 
 pub In-last : {X : Type 0} (xs : List X) (x : X) → In (xs ++ x ∷ []) x
 In-last [] x = inl refl
@@ -76,35 +57,16 @@ has_jobs-push P F es e placed next w f follows same h more = record {
 
 -- the node with one more entry
 pub stands-push : (P : Project) (F : List Entry) (e : Entry) (old : ℕ) (next : NodeState) → IsFront P F → Follows P F e → old ≡ end_of P F → next.front ≡ F ++ e ∷ [] →
-    next.end ≡ max old (finish P e) → StandsFor P next
-stands-push P F e old next f follows was same now = record {
+    next.end ≡ max old (finish P e) → IsTallyOf P (F ++ e ∷ []) next.tally → StandsFor P next
+stands-push P F e old next f follows was same now tally = record {
   front = subst (IsFront P) (sym same) (front-push P F e f follows);
   end = now ∙ ap (λ n. max n (finish P e)) was ∙ sym (end-push P F e) ∙ ap (end_of P) (sym same);
+  tally = subst (λ (G : List Entry). IsTallyOf P G next.tally) (sym same) tally;
 }
 
 pub IfSome-weaker : {X : Type 0} (o : Option X) (A B : X → Type 0) → ((x : X) → A x → B x) → IfSome o A → IfSome o B
 IfSome-weaker None A B f h = tt
 IfSome-weaker (Some x) A B f h = f x h
-
--- the greatest of the last start and the finishes of a job's predecessors, one entry further
-abbrev pub ready_upto : Project → List Entry → ℕ → ℕ → ℕ
-ready_upto P F j i = max (last_start F) (end_of P (filter (λ e. is_before P e.job j) (take i F)))
-
-pub ready-more : (P : Project) (F : List Entry) (j i ready next : ℕ) (before : Bool) → i < length F → is_before P (item F i).job j ≡ before → ready ≡ ready_upto P F j i →
-    next ≡ cond before (max ready (finish P (item F i))) ready → next ≡ ready_upto P F j (i + 1)
-ready-more P F j i ready next true l is was now =
-    let old = end_of P (filter (λ e. is_before P e.job j) (take i F)) in
-    let more = end-filter_more P (λ e. is_before P e.job j) F i no_entry l in
-    let one = ap (λ (b : Bool). cond b (max old (finish P (item F i))) old) is in
-    omega arith
-ready-more P F j i ready next false l is was now =
-    let old = end_of P (filter (λ e. is_before P e.job j) (take i F)) in
-    let more = end-filter_more P (λ e. is_before P e.job j) F i no_entry l in
-    let one = ap (λ (b : Bool). cond b (max old (finish P (item F i))) old) is in
-    omega arith
-
-pub item-of : (P : Project) (F : List Entry) (i : ℕ) → AreOf P F → i < length F → IsOf P (item F i)
-item-of P F i of l = All-get_or (IsOf P) F i no_entry l of
 
 -- the eligible jobs up to a number
 abbrev pub EligibleTo : Project → List Entry → ℕ → JobSet → Type 0

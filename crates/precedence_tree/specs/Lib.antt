@@ -1,2 +1,3 @@
+pub mod Tally
 pub mod Node
 pub mod Children

@@ -2,7 +2,7 @@ ghost use Rattle.std.specs.Prelude.{◌≡◌, ℕ, ◌≤◌, IfSome, IfNone};
 ghost use Rattle.rcpsp_model.specs.Project.{IsJob, IsMode};
 ghost use Rattle.rcpsp_model.specs.Chain.{IsLeast};
 ghost use Rattle.rcpsp_model.specs.Modes.{IsExecutable, LacksCapacity};
-ghost use Rattle.rcpsp_model.specs.Tree.{IsShut};
+ghost use Rattle.rcpsp_model.specs.Tree.{IsEligible, IsShut};
 ghost use Rattle.precedence_tree.specs.Node.{StandsFor};
 ghost use Rattle.precedence_tree.specs.Children.{IsOpen};
 
@@ -33,7 +33,7 @@ fn lacking(project: &Project, job: u8, mode: u8) -> Option<u8>
 /// The first cause to shut the child of the node by the job in the mode, if one applies.
 pub fn cause_to_shut(project: &Project, node: &Node, job: u8, mode: u8) -> Option<Shut>
     requires node { StandsFor project.now node.now }
-    requires job { IsJob project.now job }
+    requires eligible { IsEligible project.now node.now.front job }
     requires mode { IsMode project.now job mode }
     ensures some { IfSome result (IsShut project.now node.now.front job mode) }
     ensures none { IfNone result (IsOpen project.now node.now.front job mode) }

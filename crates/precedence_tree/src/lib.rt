@@ -7,7 +7,9 @@ mod budgets;
 mod causes;
 mod frontier;
 mod leaf;
+mod members;
 mod node;
+mod tally;
 
 pub use branch::{Children, child, children};
 pub use frontier::eligible;

@@ -1,13 +1,16 @@
 ghost use Rattle.std.specs.Prelude.{◌≡◌, ℕ, ◌-◌, ◌≤◌, ◌↔◌, [], ◌∷◌, ◌++◌, length, slice_get, Some, IfOk, IfSome, IsSome};
 ghost use Rattle.sched_base.specs.JobSet.{member};
-ghost use Rattle.rcpsp_model.specs.Project.{Project as ProjectValue, IsJob, IsMode};
-ghost use Rattle.rcpsp_model.specs.Schedule.{AreOf};
+ghost use Rattle.rcpsp_model.specs.Project.{Project as ProjectValue, IsJob, IsMode, IsNonrenewable};
+ghost use Rattle.rcpsp_model.specs.Schedule.{used};
 ghost use Rattle.rcpsp_model.specs.Chain.{IsLeast};
 ghost use Rattle.rcpsp_model.specs.Modes.{IsExecutable};
-ghost use Rattle.rcpsp_model.specs.Tree.{has_job, last_start, entry_at, CanStart, Follows};
+ghost use Rattle.rcpsp_model.specs.Tree.{has_job, last_start, rest_need, entry_at, CanStart, Follows};
 ghost use Rattle.rcpsp_model.specs.Bounds.{ready};
+ghost use Rattle.precedence_tree.specs.Tally.{finish_of};
 ghost use Rattle.precedence_tree.specs.Node.{StandsFor};
 
+use crate::tally::{Tally, latest};
+use mode_rules::least_need_of_all;
 use profiles::Profile;
 use project_net::Project;
 use rcpsp_model::Entry;
@@ -17,12 +20,13 @@ use std::marker::Model;
 
 /// A node of the tree: a front, which is a partial schedule built job by job.
 ///
-/// The set of the placed jobs and the greatest finish are kept, so that no fact of a node walks over its front.
+/// The set of the placed jobs, the greatest finish and a tally are kept, so that no fact of a node walks over its front.
 #[derive(Drop)]
 pub struct Node {
     profile: Profile,
     placed: JobSet,
     end: u32,
+    tally: Tally,
 }
 
 impl Model for Node {
@@ -30,7 +34,7 @@ impl Model for Node {
 
     ghost Value = { NodeState };
 
-    ghost view = { λ n. record { front = n.profile.entries; end = n.end } };
+    ghost view = { λ n. record { front = n.profile.entries; end = n.end; tally = n.tally } };
 
     ghost invariant = { λ n. HasJobs n.profile.entries n.placed };
 }
@@ -45,6 +49,7 @@ impl Node {
             profile: Profile::empty(alloc),
             placed: JobSet::empty(),
             end: 0,
+            tally: Tally::none(),
         }
     }
 
@@ -54,11 +59,13 @@ impl Node {
     {
         let placed = self.placed;
         let end = self.end;
+        let tally = self.tally;
         let profile = self.profile.try_copy(0)?;
         Ok(Node {
             profile,
             placed,
             end,
+            tally,
         })
     }
 
@@ -108,6 +115,47 @@ impl Node {
         self.placed
     }
 
+    /// The finish of a job, 0 where it isn't placed.
+    pub fn finish(&self, job: u8) -> u32
+        requires low { 1 ≤ job }
+        requires high { job ≤ 128 }
+        ensures { (P : ProjectValue) → StandsFor P self.now → IsJob P job → result ≡ finish_of P self.now.front job }
+    {
+        self.tally.finishes[job as usize - 1]
+    }
+
+    /// What the placed jobs need of a nonrenewable resource.
+    pub fn used(&self, resource: u8) -> u64
+        requires low { 1 ≤ resource }
+        requires high { resource ≤ 16 }
+        ensures { (P : ProjectValue) → StandsFor P self.now → IsNonrenewable P resource → result ≡ used P self.now.front resource }
+    {
+        self.tally.needs[resource as usize - 1]
+    }
+
+    /// What the jobs that aren't placed need of a nonrenewable resource at least.
+    pub fn rest_need(&self, project: &Project, resource: u8) -> u64
+        requires node { StandsFor project.now self.now }
+        requires resource { IsNonrenewable project.now resource }
+        ensures value { result ≡ rest_need project.now self.now.front resource }
+        ensures limit { result ≤ 128000000 }
+    {
+        project.known();
+        let placed = self.tally.least_needs[resource as usize - 1];
+        least_need_of_all(project, resource) - placed
+    }
+
+    /// The greatest of the last start and the finishes of a job's placed predecessors, at most 1,290,000.
+    pub fn ready(&self, project: &Project, job: u8) -> u32
+        requires node { StandsFor project.now self.now }
+        requires job { IsJob project.now job }
+        ensures value { result ≡ ready project.now self.now.front job }
+        ensures limit { result ≤ 1290000 }
+    {
+        project.known();
+        latest(&self.tally.finishes, project.preds(job), self.last())
+    }
+
     /// The least start of a job in a mode by the last start, its predecessors and the capacities, where there is one.
     pub(crate) fn earliest(&self, project: &Project, job: u8, mode: u8) -> Option<u32>
         requires node { StandsFor project.now self.now }
@@ -117,7 +165,7 @@ impl Node {
         ensures least { IfSome result (IsLeast (CanStart project.now self.now.front job mode)) }
     {
         project.known();
-        let floor = ready_at(project, self.profile.entries(), job);
+        let floor = self.ready(project, job);
         self.profile.earliest(project, job, mode, floor)
     }
 
@@ -135,14 +183,17 @@ impl Node {
         ensures stands { IfOk result (StandsFor project.now) }
     {
         project.known();
+        let finish = start + project.duration(job, mode);
         let placed = self.placed.with(Job(job));
-        let end = self.end.max(start + project.duration(job, mode));
+        let end = self.end.max(finish);
+        let tally = self.tally.with(project, job, mode, finish);
         let mut profile = self.profile.try_copy(1)?;
         profile.place(project, job, mode, start)?;
         Ok(Node {
             profile,
             placed,
             end,
+            tally,
         })
     }
 }
@@ -155,21 +206,4 @@ fn last_of(entries: &[Entry]) -> u32
     } else {
         entries[entries.len() - 1].start
     }
-}
-
-/// The greatest of the last start and the finishes of the job's predecessors.
-fn ready_at(project: &Project, entries: &[Entry], job: u8) -> u32
-    requires entries { AreOf project.now entries.now }
-    requires job { IsJob project.now job }
-    ensures { result ≡ ready project.now entries.now job }
-{
-    project.known();
-    let predecessors = project.preds(job);
-    let mut ready = last_of(entries);
-    for entry in entries {
-        if predecessors.has(Job(entry.job)) {
-            ready = ready.max(entry.start + project.duration(entry.job, entry.mode));
-        }
-    }
-    ready
 }

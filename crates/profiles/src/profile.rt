@@ -1,4 +1,4 @@
-ghost use Rattle.std.specs.Prelude.{◌≡◌, ◌+◌, ◌<◌, ◌≤◌, ◌↔◌, [], ◌∷◌, ◌++◌, IsOk, IfOk, OnOk, OnErr, IsTrue, IsSome, IfSome, length};
+ghost use Rattle.std.specs.Prelude.{◌≡◌, ◌+◌, ◌<◌, ◌≤◌, ◌↔◌, [], ◌∷◌, ◌++◌, IsOk, IfOk, OnOk, OnErr, IsTrue, IsSome, IfSome};
 ghost use Rattle.rcpsp_model.specs.Project.{Project as ProjectValue, IsJob, IsMode, IsRenewable};
 ghost use Rattle.rcpsp_model.specs.Schedule.{usage, IsOf};
 ghost use Rattle.rcpsp_model.specs.Chain.{IsLeast};
@@ -80,7 +80,6 @@ impl Profile {
 
     /// A profile of the same entries, with room for so many more.
     pub fn try_copy(&self, more: u8) -> Result<Self, NoMemory>
-        requires { length self.now.entries ≤ 128 }
         ensures same { IfOk result (λ copy. copy.entries ≡ self.now.entries) }
         ensures spare { IfOk result (λ copy. more ≤ copy.spare) }
         ensures profile { (P : ProjectValue) → IsProfileOf P self.now → IfOk result (IsProfileOf P) }

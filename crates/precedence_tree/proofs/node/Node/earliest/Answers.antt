@@ -1,18 +1,12 @@
-use Rattle.std.proofs.Common.{◌≡◌, ℕ, sym, ap, subst, ◌∙◌, List}
+use Rattle.std.proofs.Common.{ℕ, ap, subst, List}
 use Rattle.std.specs.Prelude.{IfSome}
 use Rattle.rcpsp_model.specs.declared.parts.Entry.{Entry}
-use Rattle.rcpsp_model.specs.Schedule.{AreOf}
 use Rattle.rcpsp_model.specs.Chain.{IsLeast}
-use Rattle.rcpsp_model.specs.Bounds.{ready}
-use Rattle.rcpsp_model.proofs.FrontLemmas.{front-of, can_start-from}
+use Rattle.rcpsp_model.proofs.FrontLemmas.{can_start-from}
 use Rattle.profiles.specs.Room.{FitsFrom}
 use Rattle.precedence_tree.specs.Node.{NodeState}
 use Rattle.precedence_tree.proofs.Fronts.{front-profile, IfSome-weaker}
 use Rattle.precedence_tree.proofs.node.Node.earliest.Goals as goal
-
-pub ready_at-floor-requires-clause-entries : goal.ready_at-floor-requires-clause-entries
-ready_at-floor-requires-clause-entries c =
-    subst (AreOf c.args.project.now) (sym (c.entries.ensures ∙ ap (λ (n : NodeState). n.front) c.self.view_is)) (front-of c.args.project.now c.args.self.now.front c.known.ensures.limits c.requires.node.front)
 
 pub earliest-requires-clause-profile : goal.earliest-requires-clause-profile
 earliest-requires-clause-profile c =
@@ -24,8 +18,6 @@ returns-clause-least c =
     let F = c.args.self.now.front in
     let j = c.args.job in
     let m = c.args.mode in
-    let seen = ap (λ (n : NodeState). n.front) c.self.view_is in
-    let floor : c.ready_at-floor.result ≡ ready P F j = c.ready_at-floor.ensures ∙ ap (λ (es : List Entry). ready P es j) (c.entries.ensures ∙ seen) in
-    let least : IfSome c.earliest.result (IsLeast (FitsFrom P F j m c.ready_at-floor.result)) =
-    subst (λ (es : List Entry). IfSome c.earliest.result (IsLeast (FitsFrom P es j m c.ready_at-floor.result))) seen c.earliest.ensures.least in
-    IfSome-weaker c.earliest.result _ _ (λ t h. can_start-from P F j m t h) (subst (λ (n : ℕ). IfSome c.earliest.result (IsLeast (FitsFrom P F j m n))) floor least)
+    let least : IfSome c.earliest.result (IsLeast (FitsFrom P F j m c.ready-floor.result)) =
+    subst (λ (es : List Entry). IfSome c.earliest.result (IsLeast (FitsFrom P es j m c.ready-floor.result))) (ap (λ (n : NodeState). n.front) c.self.view_is) c.earliest.ensures.least in
+    IfSome-weaker c.earliest.result _ _ (λ t h. can_start-from P F j m t h) (subst (λ (n : ℕ). IfSome c.earliest.result (IsLeast (FitsFrom P F j m n))) c.ready-floor.ensures.value least)
