@@ -1,0 +1,12 @@
+//! Dominance between fronts, after the cutset rule of Demeulemeester and Herroelen (1992): records of fronts, whether a
+//! record makes a node needless, and an index of records by their jobs.
+#![tactic(auto)]
+
+mod dominance;
+mod finishes;
+mod needs;
+mod record;
+mod usage;
+
+pub use dominance::dominates;
+pub use record::CutRecord;
