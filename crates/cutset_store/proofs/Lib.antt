@@ -1,3 +1,4 @@
 pub mod Entries
 pub mod Falling
 pub mod JobSets
+pub mod Indexed

@@ -4,9 +4,12 @@
 
 mod dominance;
 mod finishes;
+mod index;
 mod needs;
+mod places;
 mod record;
 mod usage;
 
 pub use dominance::dominates;
+pub use index::Index;
 pub use record::CutRecord;
