@@ -5,6 +5,7 @@
 mod dominance;
 mod finishes;
 mod index;
+mod judging;
 mod needs;
 mod places;
 mod record;

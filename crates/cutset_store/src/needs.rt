@@ -8,11 +8,12 @@ use project_net::Project;
 use rcpsp_model::Entry;
 
 /// What the entries need of the resource; at most 128 times 1,000,000.
-fn used_by(project: &Project, entries: &[Entry], resource: u8) -> u64
+pub fn used_by(project: &Project, entries: &[Entry], resource: u8) -> u64
     requires entries { AreOf project.now entries.now }
     requires few { length entries.now ≤ 128 }
     requires resource { IsNonrenewable project.now resource }
-    ensures { result ≡ used project.now entries.now resource }
+    ensures value { result ≡ used project.now entries.now resource }
+    ensures limit { result ≤ 128000000 }
 {
     let mut sum = 0;
     for entry in entries {

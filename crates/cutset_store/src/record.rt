@@ -1,8 +1,9 @@
-ghost use Rattle.std.specs.Prelude.{◌≡◌, IfOk};
+ghost use Rattle.std.specs.Prelude.{◌≡◌, ◌↔◌, IfOk, IsTrue};
 ghost use Rattle.rcpsp_model.specs.Tree.{last_start, IsFront};
 ghost use Rattle.precedence_tree.specs.Node.{StandsFor};
 ghost use Rattle.cutset_store.specs.Record.{HasJobs};
 
+use crate::judging::is_front;
 use precedence_tree::Node;
 use project_net::Project;
 use rcpsp_model::Entry;
@@ -48,6 +49,13 @@ impl CutRecord {
             placed,
             last,
         })
+    }
+
+    /// Whether it is a record of a front of the project. It is judged entry by entry, whatever project it was made for.
+    pub fn is_of(&self, project: &Project) -> Result<bool, NoMemory>
+        ensures { IfOk result (λ yes. IsTrue yes ↔ IsFront project.now self.now) }
+    {
+        is_front(*self.entries.allocator(), project, self.entries.as_slice())
     }
 
     /// The entries in the order of placing.
