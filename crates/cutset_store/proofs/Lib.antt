@@ -1,0 +1,5 @@
+pub mod Entries
+pub mod Falling
+pub mod JobSets
+pub mod Indexed
+pub mod Following

@@ -1,0 +1,16 @@
+//! Dominance between fronts, after the cutset rule of Demeulemeester and Herroelen (1992): records of fronts, whether a
+//! record makes a node needless, and an index of records by their jobs.
+#![tactic(auto)]
+
+mod dominance;
+mod finishes;
+mod index;
+mod judging;
+mod needs;
+mod places;
+mod record;
+mod usage;
+
+pub use dominance::dominates;
+pub use index::Index;
+pub use record::CutRecord;
