@@ -1,6 +1,8 @@
 //! Project texts: the project that a text is, or the first rule that the text breaks, with its line.
 #![tactic(auto)]
 
+#[cfg(test)]
+mod canonical_tests;
 mod cycle;
 mod drafting;
 pub mod laws;

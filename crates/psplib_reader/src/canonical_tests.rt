@@ -1,0 +1,237 @@
+//! Worked projects: each is read from its text, and printed as its canonical text.
+
+use crate::read_project;
+use project_net::print_project;
+use std::alloc::{AllocError, Global};
+use std::process::Abort;
+
+/// What the canonical texts of projects differ in.
+#[derive(Clone, Copy)]
+struct Worked<'a> {
+    counts: (u8, u8, u8),
+    horizon: u32,
+    precedence: &'a str,
+    heading: &'a str,
+    modes: &'a str,
+    amounts: &'a str,
+}
+
+const STARS: &str = "************************************************************************\n";
+
+const HYPHENS: &str = "------------------------------------------------------------------------\n";
+
+/// The header of a canonical text.
+fn append_header(alloc: Global, text: &mut String, worked: &Worked<'_>) -> Result<(), AllocError> {
+    let (jobs, renewables, nonrenewables) = worked.counts;
+    let horizon = worked.horizon;
+    text.push_str("file with basedata            :  -\ninitial value random generator:  0\n")?;
+    text.push_str(STARS)?;
+    let title = format!(in alloc;
+        "projects                      :  1\njobs (incl. supersource/sink ):  {jobs}\nhorizon                       :  {horizon}\nRESOURCES\n"
+    )?;
+    text.push_str(title.as_str())?;
+    let counts = format!(in alloc;
+        "  - renewable                 :  {renewables}   R\n  - nonrenewable              :  {nonrenewables}   N\n"
+    )?;
+    text.push_str(counts.as_str())?;
+    text.push_str("  - doubly constrained        :  0   D\n")?;
+    text.push_str(STARS)?;
+    let information = format!(in alloc;
+        "PROJECT INFORMATION:\npronr.  #jobs rel.date duedate tardcost  MPM-Time\n1 {jobs} 0 0 0 0\n"
+    )?;
+    text.push_str(information.as_str())
+}
+
+/// The parts behind the header.
+fn append_parts(text: &mut String, worked: &Worked<'_>) -> Result<(), AllocError> {
+    text.push_str("PRECEDENCE RELATIONS:\njobnr.    #modes  #successors   successors\n")?;
+    text.push_str(worked.precedence)?;
+    text.push_str(STARS)?;
+    text.push_str("REQUESTS/DURATIONS:\n")?;
+    text.push_str(worked.heading)?;
+    text.push_str("\n")?;
+    text.push_str(HYPHENS)?;
+    text.push_str(worked.modes)?;
+    text.push_str(STARS)?;
+    text.push_str("RESOURCEAVAILABILITIES:\n")?;
+    text.push_str(worked.amounts)?;
+    text.push_str(STARS)
+}
+
+/// The canonical text of a project.
+fn canonical_text(alloc: Global, worked: &Worked<'_>) -> Result<String, AllocError> {
+    let mut text = String::from_str(alloc, STARS)?;
+    append_header(alloc, &mut text, worked)?;
+    text.push_str(STARS)?;
+    append_parts(&mut text, worked)?;
+    Ok(text)
+}
+
+/// Reads a project from its text, and compares its canonical text.
+fn check_printed<R: Abort + AllocGlobal>(rt: &R, text: &[u8], canonical: &str) {
+    let project = read_project(rt.alloc(), text).expect(rt, "a project");
+    let printed = print_project(rt.alloc(), &project).expect(rt, "memory");
+    assert_eq!(rt; printed.as_slice(), canonical.as_bytes());
+}
+
+/// A canonical text is read as the project that is printed as it.
+fn check_canonical<R: Abort + AllocGlobal>(rt: &R, worked: &Worked<'_>) {
+    let text = canonical_text(rt.alloc(), worked).expect(rt, "memory");
+    check_printed(rt, text.as_bytes(), text.as_str());
+}
+
+/// Two jobs ask for one resource between a first and a last job.
+const ONE_RESOURCE: Worked<'static> = Worked {
+    counts: (4, 1, 0),
+    horizon: 5,
+    precedence: "1 1 2 2 3\n2 1 1 4\n3 1 1 4\n4 1 0\n",
+    heading: "jobnr. mode duration R 1",
+    modes: "1 1 0 0\n2 1 3 2\n3 1 2 2\n4 1 0 0\n",
+    amounts: "R 1\n3\n",
+};
+
+/// Two of four jobs have two modes, and there is a budget.
+const TWO_MODES: Worked<'static> = Worked {
+    counts: (4, 1, 1),
+    horizon: 8,
+    precedence: "1 1 2 2 3\n2 2 1 4\n3 2 1 4\n4 1 0\n",
+    heading: "jobnr. mode duration R 1 N 1",
+    modes: "1 1 0 0 0\n2 1 2 1 3\n2 4 1 1\n3 1 2 1 3\n2 4 1 1\n4 1 0 0 0\n",
+    amounts: "R 1 N 1\n2 4\n",
+};
+
+/// Three jobs of duration 2 stand side by side, and one can run at a time.
+const THREE_SIDE_BY_SIDE: Worked<'static> = Worked {
+    counts: (5, 1, 0),
+    horizon: 6,
+    precedence: "1 1 3 2 3 4\n2 1 1 5\n3 1 1 5\n4 1 1 5\n5 1 0\n",
+    heading: "jobnr. mode duration R 1",
+    modes: "1 1 0 0\n2 1 2 1\n3 1 2 1\n4 1 2 1\n5 1 0 0\n",
+    amounts: "R 1\n1\n",
+};
+
+/// One of six jobs has two modes.
+const ONE_CHOICE: Worked<'static> = Worked {
+    counts: (6, 1, 1),
+    horizon: 7,
+    precedence: "1 1 2 2 3\n2 2 2 4 5\n3 1 2 4 5\n4 1 1 6\n5 1 1 6\n6 1 0\n",
+    heading: "jobnr. mode duration R 1 N 1",
+    modes: "1 1 0 0 0\n2 1 1 1 3\n2 1 2 1\n3 1 1 1 0\n4 1 3 2 0\n5 1 2 2 0\n6 1 0 0 0\n",
+    amounts: "R 1 N 1\n3 10\n",
+};
+
+/// Two jobs that may change places come before two others.
+const TWINS: Worked<'static> = Worked {
+    counts: (6, 1, 0),
+    horizon: 7,
+    precedence: "1 1 2 2 3\n2 1 2 4 5\n3 1 2 4 5\n4 1 1 6\n5 1 1 6\n6 1 0\n",
+    heading: "jobnr. mode duration R 1",
+    modes: "1 1 0 0\n2 1 1 1\n3 1 1 1\n4 1 3 2\n5 1 2 2\n6 1 0 0\n",
+    amounts: "R 1\n3\n",
+};
+
+/// Two jobs that wait for nothing need two nonrenewable resources.
+const TWO_BUDGETS: Worked<'static> = Worked {
+    counts: (2, 0, 2),
+    horizon: 2,
+    precedence: "1 2 0\n2 2 0\n",
+    heading: "jobnr. mode duration N 1 N 2",
+    modes: "1 1 1 3 0\n2 1 0 3\n2 1 1 3 0\n2 1 0 3\n",
+    amounts: "N 1 N 2\n3 3\n",
+};
+
+/// Jobs come before jobs of lower numbers.
+const LATER_FIRST: Worked<'static> = Worked {
+    counts: (5, 1, 0),
+    horizon: 5,
+    precedence: "1 1 1 4\n2 1 1 1\n3 1 1 2\n4 1 0\n5 1 0\n",
+    heading: "jobnr. mode duration R 1",
+    modes: "1 1 0 0\n2 1 0 0\n3 1 0 0\n4 1 3 2\n5 1 2 2\n",
+    amounts: "R 1\n3\n",
+};
+
+/// Two jobs of duration 0, and no resource.
+const NO_RESOURCE: Worked<'static> = Worked {
+    counts: (2, 0, 0),
+    horizon: 0,
+    precedence: "1 1 1 2\n2 1 0\n",
+    heading: "jobnr. mode duration",
+    modes: "1 1 0\n2 1 0\n",
+    amounts: "",
+};
+
+/// The project `TWO_MODES` as the library's files have it, with LF for CR and LF.
+const LIBRARY_TEXT: &str = "************************************************************************
+file with basedata            : mm4_.bas
+initial value random generator: 12345
+************************************************************************
+projects                      :  1
+jobs (incl. supersource/sink ):  4
+horizon                       :  8
+RESOURCES
+  - renewable                 :  1   R
+  - nonrenewable              :  1   N
+  - doubly constrained        :  0   D
+************************************************************************
+PROJECT INFORMATION:
+pronr.  #jobs rel.date duedate tardcost  MPM-Time
+    1      2      0        4        0        2
+************************************************************************
+PRECEDENCE RELATIONS:
+jobnr.    #modes  #successors   successors
+   1        1          2           2
+                                   3
+   2        2          1           4
+   3        2          1           4
+   4        1          0
+************************************************************************
+REQUESTS/DURATIONS:
+jobnr. mode duration  R 1  N 1
+------------------------------------------------------------------------
+  1      1     0       0    0
+  2      1     2       1    3
+         2     4       1    1
+  3      1     2       1    3
+         2     4       1    1
+  4      1     0       0    0
+************************************************************************
+RESOURCEAVAILABILITIES:
+  R 1  N 1
+    2    4
+************************************************************************\n";
+
+/// The text with CR before each LF, and the byte 0x1A behind all.
+fn with_marks(alloc: Global, text: &str) -> Result<Vec<u8>, AllocError> {
+    let mut marked = Vec::new(alloc);
+    for byte in text.as_bytes() {
+        if *byte == b'\n' {
+            marked.push(b'\r')?;
+        }
+        marked.push(*byte)?;
+    }
+    marked.push(0x1A)?;
+    Ok(marked)
+}
+
+#[test]
+fn a_file_of_the_library_has_a_canonical_text(rt: HostRuntime) {
+    let text = with_marks(rt.alloc(), LIBRARY_TEXT).expect(&rt, "memory");
+    let canonical = canonical_text(rt.alloc(), &TWO_MODES).expect(&rt, "memory");
+    check_printed(&rt, &text, canonical.as_str());
+}
+
+#[test]
+fn canonical_texts_of_single_mode_projects_are_printed(rt: HostRuntime) {
+    check_canonical(&rt, &ONE_RESOURCE);
+    check_canonical(&rt, &THREE_SIDE_BY_SIDE);
+    check_canonical(&rt, &TWINS);
+    check_canonical(&rt, &LATER_FIRST);
+    check_canonical(&rt, &NO_RESOURCE);
+}
+
+#[test]
+fn canonical_texts_of_projects_with_modes_are_printed(rt: HostRuntime) {
+    check_canonical(&rt, &TWO_MODES);
+    check_canonical(&rt, &ONE_CHOICE);
+    check_canonical(&rt, &TWO_BUDGETS);
+}
