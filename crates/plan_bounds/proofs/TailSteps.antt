@@ -13,35 +13,6 @@ use Rattle.rcpsp_model.specs.Bounds.{ready, TailValue, front, chain, IsTailBound
 use Rattle.rcpsp_model.proofs.Sound.{IsSound, front-sound}
 use Rattle.rcpsp_model.proofs.FrontLemmas.{end-push}
 
-abbrev pub no_entry : Entry
-no_entry = record { job = 0; mode = 0; start = 0 }
-
--- the greatest finish of the placed predecessors, one entry further
-abbrev pub done_upto : Project → List Entry → ℕ → ℕ → ℕ
-done_upto P es j i = end_of P (filter (λ e. is_before P e.job j) (take i es))
-
-end-filter_more : (P : Project) (p : Entry → Bool) (es : List Entry) (i : ℕ) (d : Entry) → i < length es →
-    end_of P (filter p (take (i + 1) es)) ≡ cond (p (get_or es i d)) (max (end_of P (filter p (take i es))) (finish P (get_or es i d))) (end_of P (filter p (take i es)))
-end-filter_more P p es i d l =
-    let e = get_or es i d in
-    let old = filter p (take i es) in
-    ap (end_of P) (filter_more p es i d l) ∙
-    elim (p e) as (λ b. end_of P (old ++ cond b (e ∷ []) []) ≡ cond b (max (end_of P old) (finish P e)) (end_of P old)) [
-      | true ↦ end-push P old e
-      | false ↦ ap (end_of P) (append-nil old)
-    ]
-
-pub done-more : (P : Project) (es : List Entry) (j i : ℕ) (d : Entry) → i < length es → is_before P (get_or es i d).job j ≡ true →
-    done_upto P es j (i + 1) ≡ max (done_upto P es j i) (finish P (get_or es i d))
-done-more P es j i d l b =
-    let old = done_upto P es j i in
-    end-filter_more P (λ e. is_before P e.job j) es i d l ∙ ap (λ x. cond x (max old (finish P (get_or es i d))) old) b
-
-pub done-same : (P : Project) (es : List Entry) (j i : ℕ) (d : Entry) → i < length es → is_before P (get_or es i d).job j ≡ false → done_upto P es j (i + 1) ≡ done_upto P es j i
-done-same P es j i d l b =
-    let old = done_upto P es j i in
-    end-filter_more P (λ e. is_before P e.job j) es i d l ∙ ap (λ x. cond x (max old (finish P (get_or es i d))) old) b
-
 -- the bound is the end of the front, or what one of the unplaced jobs leads to
 pub Reached : Project → List Entry → ℕ → Type 0
 Reached P F n = (n ≡ end_of P F) ⊎ ((j : ℕ) × (t : ℕ) × IsJob P j × (has_job F j ≡ false) × IsTail P j t × (n ≡ ready P F j + t))

@@ -24,9 +24,7 @@ pub fn tail_bound(project: &Project, node: &Node) -> u32
     ensures bound { (s : List Placing) → Completes project.now node.now.front s → result ≤ end_of project.now (entries s) }
 {
     project.known();
-    let front = node.entries();
-    let placed = node.placed();
-    tail_bound_of(project, front, placed, node.last(), node.end())
+    tail_bound_of(project, node)
 }
 
 /// The work bound of a renewable resource at a node: the last start and the quotient, rounded up, of the work that is
@@ -40,9 +38,7 @@ pub fn work_bound(project: &Project, node: &Node, resource: u8) -> Option<u32>
     // What completes the node ends at the bound or later.
     ensures bound { IfSome result (λ w. (s : List Placing) → Completes project.now node.now.front s → w ≤ end_of project.now (entries s)) }
 {
-    let front = node.entries();
-    let placed = node.placed();
-    work_bound_of(project, front, placed, node.last(), resource)
+    work_bound_of(project, node, resource)
 }
 
 /// The greatest of the tail bound and all work bounds of a node.
@@ -54,9 +50,7 @@ pub fn lower(project: &Project, node: &Node) -> u32
     ensures bound { (s : List Placing) → Completes project.now node.now.front s → result ≤ end_of project.now (entries s) }
 {
     project.known();
-    let front = node.entries();
-    let placed = node.placed();
-    lower_of(project, front, placed, node.last(), node.end())
+    lower_of(project, node)
 }
 
 /// The lowest nonrenewable resource of which the node's jobs and the others at their least need more than the budget.
@@ -69,7 +63,5 @@ pub fn budget_gap(project: &Project, node: &Node) -> Option<u8>
     ensures infeasible { IfSome result (λ _. (s : List Placing) → Completes project.now node.now.front s → ⊥) }
     ensures placed { (F : List Placed) (e : Placed) → node.now.front ≡ F ++ e ∷ [] → IsPlacedChild project.now F e → IsNone result }
 {
-    let front = node.entries();
-    let placed = node.placed();
-    gap_of(project, front, placed)
+    gap_of(project, node)
 }

@@ -3,11 +3,12 @@ ghost use Rattle.sched_base.specs.JobSet.{member};
 ghost use Rattle.rcpsp_model.specs.Project.{IsRenewable, job_count, capacity, request};
 ghost use Rattle.rcpsp_model.specs.Schedule.{AreOf, IsOf};
 ghost use Rattle.rcpsp_model.specs.Modes.{least_work as least_work_of};
-ghost use Rattle.rcpsp_model.specs.Tree.{last_start, IsFront};
 ghost use Rattle.rcpsp_model.specs.Bounds.{periods_left, rest_work, IsWorkBound};
-ghost use Rattle.plan_bounds.specs.Rest.{HasPlaced, sum_beside};
+ghost use Rattle.precedence_tree.specs.Node.{StandsFor};
+ghost use Rattle.plan_bounds.specs.Rest.{sum_beside};
 
 use mode_rules::least_work;
+use precedence_tree::Node;
 use project_net::Project;
 use rcpsp_model::Entry;
 use sched_base::{Job, JobSet};
@@ -20,7 +21,10 @@ fn work_of(p: &Project, entry: &Entry, from: u32, resource: u8) -> u64
     ensures limit { result ≤ 1000009999000000 }
 {
     let finish = entry.start + p.duration(entry.job, entry.mode);
-    u64::from(p.request(entry.job, entry.mode, resource)) * u64::from(finish.saturating_sub(from))
+    if finish <= from {
+        return 0;
+    }
+    u64::from(p.request(entry.job, entry.mode, resource)) * u64::from(finish - from)
 }
 
 /// What the placed jobs still ask of the resource from the period on; at most 128 times 1,000,000 units in 1,000,009,999
@@ -54,39 +58,29 @@ fn open_work(p: &Project, placed: JobSet, resource: u8) -> u64
     sum
 }
 
-/// The work on the resource that is left from the front's last start on; below 2^58.
-fn work_left(p: &Project, front: &[Entry], placed: JobSet, last: u32, resource: u8) -> u64
-    requires front { IsFront p.now front.now }
-    requires placed { HasPlaced placed front.now }
-    requires last { last ≡ last_start front.now }
+/// The work on the resource that is left from the node's last start on; below 2^58.
+fn work_left(p: &Project, node: &Node, resource: u8) -> u64
+    requires node { StandsFor p.now node.now }
     requires resource { IsRenewable p.now resource }
-    ensures value { result ≡ rest_work p.now front.now resource }
+    ensures value { result ≡ rest_work p.now node.now.front resource }
     ensures limit { result ≤ 128002559872000000 }
 {
     p.known();
-    placed_work(p, front, last, resource) + open_work(p, placed, resource)
+    placed_work(p, node.entries(), node.last(), resource) + open_work(p, node.placed(), resource)
 }
 
-/// The work bound of the resource at a front, of which the placed jobs and the last start are known.
-pub fn work_bound_of(
-    p: &Project,
-    front: &[Entry],
-    placed: JobSet,
-    last: u32,
-    resource: u8,
-) -> Option<u32>
-    requires front { IsFront p.now front.now }
-    requires placed { HasPlaced placed front.now }
-    requires last { last ≡ last_start front.now }
+/// The work bound of the resource at a node.
+pub fn work_bound_of(p: &Project, node: &Node, resource: u8) -> Option<u32>
+    requires node { StandsFor p.now node.now }
     requires resource { IsRenewable p.now resource }
-    ensures some { IfSome result (IsWorkBound p.now front.now resource) }
+    ensures some { IfSome result (IsWorkBound p.now node.now.front resource) }
     ensures none { IsNone result ↔ (capacity p.now resource ≡ 0) }
 {
     let capacity = u64::from(p.capacity(resource));
     if capacity == 0 {
         return None;
     }
-    let work = work_left(p, front, placed, last, resource);
-    let bound = u64::from(last) + (work + capacity - 1) / capacity;
+    let work = work_left(p, node, resource);
+    let bound = u64::from(node.last()) + (work + capacity - 1) / capacity;
     Some(bound.min(999_999_999) as u32)
 }
