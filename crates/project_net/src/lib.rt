@@ -11,6 +11,8 @@ mod mode_table;
 mod network;
 mod order;
 mod print;
+#[cfg(test)]
+mod print_tests;
 mod project;
 mod reach;
 mod refusal;
