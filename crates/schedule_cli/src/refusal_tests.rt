@@ -43,6 +43,9 @@ R 1
 3
 ************************************************************************";
 
+/// How many lines the canonical text has.
+const LINES: usize = 35;
+
 /// The text keeps its lines before a number, gets new ones, and keeps its lines from a number on.
 #[derive(Clone, Copy)]
 struct Edit<'a> {
@@ -51,7 +54,7 @@ struct Edit<'a> {
     from: usize,
 }
 
-/// Appends the lines of the canonical text from one number up to another.
+/// Appends the lines of the canonical text from one index up to another.
 fn append_lines(text: &mut String, from: usize, end: usize) -> Result<(), AllocError> {
     for (index, line) in CANONICAL.split('\n').enumerate() {
         if from <= index && index < end {
@@ -67,11 +70,11 @@ fn edited(alloc: Global, edit: &Edit<'_>) -> Result<String, AllocError> {
     let mut text = String::new(alloc);
     append_lines(&mut text, 0, edit.before.saturating_sub(1))?;
     text.push_str(edit.new)?;
-    append_lines(&mut text, edit.from.saturating_sub(1), 35)?;
+    append_lines(&mut text, edit.from.saturating_sub(1), LINES)?;
     Ok(text)
 }
 
-/// Solves the canonical text with other lines in place of one, which is refused.
+/// Solves the canonical text with an edit, which is refused.
 fn check_edited<R: Threads + Abort + Sync + AllocGlobal>(rt: &R, edit: &Edit<'_>, told: &str) {
     let text = edited(rt.alloc(), edit).expect(rt, "memory");
     check_text(rt, text.as_bytes(), (Status::BadProject, told));

@@ -156,6 +156,7 @@ fn a_budget_that_is_met_exactly_is_kept(rt: HostRuntime) {
     check_solved(&rt, &rows, (Status::Done, want));
 }
 
+/// Eighteen jobs on two resources of each kind, whose first plan in shortest modes ends with the longest chain.
 const EIGHTEEN_JOBS: Rows<'static> = Rows {
     counts: (18, 2, 2),
     precedence: "1 1 3 2 3 4\n2 2 2 5 6\n3 2 2 7 8\n4 2 2 9 10\n5 2 1 11\n6 2 2 11 12\n7 2 1 12\n8 2 1 13\n9 2 2 13 14\n10 2 1 14\n11 2 1 15\n12 2 2 15 16\n13 2 1 16\n14 2 1 17\n15 2 1 18\n16 2 1 18\n17 2 1 18\n18 1 0\n",
