@@ -1,10 +1,10 @@
 ghost use Rattle.precedence_tree.specs.Node.{StandsFor};
 ghost use Rattle.precedence_tree.specs.Children.{StandsWherePlaced};
 
-use crate::{Child, Node, child, eligible, is_leaf, schedule};
+use crate::{Child, Children, Entry, Node, Shut, child, children, eligible, is_leaf, schedule};
 use project_net::{Draft, DraftJob, Project, Schedule};
 use rcpsp_model::{Mode, Placing};
-use sched_base::{Job, List};
+use sched_base::{Job, JobSet, List};
 use std::alloc::{AllocError, Global};
 use std::process::Abort;
 use std::test::Fail;
@@ -21,6 +21,22 @@ struct Facts {
     jobs: &'static [JobRow],
     capacities: &'static [u32],
     budgets: &'static [u32],
+}
+
+/// A job in a mode: placed at a start, or shut.
+#[derive(Clone, Copy, PartialEq, Eq)]
+enum Line {
+    Placed(u8, u8, u32),
+    Shut(u8, u8, Shut),
+}
+
+/// A front by its jobs, modes and starts, with its eligible jobs and its children.
+struct Case {
+    name: &'static str,
+    facts: Facts,
+    front: &'static [(u8, u8, u32)],
+    eligible: &'static [u8],
+    children: &'static [Line],
 }
 
 fn list(alloc: Global, numbers: &[u32]) -> Result<List<u32>, AllocError> {
@@ -105,6 +121,49 @@ fn node_of(rt: &impl Abort, alloc: Global, project: &Project, front: &[(u8, u8, 
     node
 }
 
+/// Whether the set has these jobs and no others.
+fn is_set(set: JobSet, jobs: &[u8]) -> bool {
+    for job in jobs {
+        if *job < 1 || 128 < *job || !set.has(Job(*job)) {
+            return false;
+        }
+    }
+    set.count() as usize == jobs.len()
+}
+
+/// The job that a node placed last.
+fn newest(node: &Node) -> Option<Entry> {
+    let depth = node.depth();
+    if depth == 0 {
+        return None;
+    }
+    Some(node.entry(depth))
+}
+
+fn is_line(child: &Child<Node>, line: Line) -> bool {
+    match child {
+        Child::Placed(node) => match newest(node) {
+            Some(entry) => line == Line::Placed(entry.job, entry.mode, entry.start),
+            None => false,
+        },
+        Child::Shut { job, mode, why } => line == Line::Shut(*job, *mode, *why),
+    }
+}
+
+/// Whether the children are these, in this order.
+fn are_lines(children: &Children, lines: &[Line]) -> bool {
+    let all = children.as_slice();
+    if all.len() != lines.len() {
+        return false;
+    }
+    for place in 0..lines.len() {
+        if !is_line(&all[place], lines[place]) {
+            return false;
+        }
+    }
+    true
+}
+
 /// Three jobs without length, one before the other and before job 4; job 5 stands alone.
 const NO_LENGTH: Facts = Facts {
     jobs: &[
@@ -113,6 +172,42 @@ const NO_LENGTH: Facts = Facts {
         (&[(0, &[0], &[])], &[2]),
         (&[(3, &[2], &[])], &[]),
         (&[(2, &[2], &[])], &[]),
+    ],
+    capacities: &[3],
+    budgets: &[],
+};
+
+/// Jobs 2 and 3 of four ask together for more than there is.
+const IN_TURN: Facts = Facts {
+    jobs: &[
+        (&[(0, &[0], &[])], &[2, 3]),
+        (&[(3, &[2], &[])], &[4]),
+        (&[(2, &[2], &[])], &[4]),
+        (&[(0, &[0], &[])], &[]),
+    ],
+    capacities: &[3],
+    budgets: &[],
+};
+
+/// Job 2 of four asks for more than there is.
+const TOO_MUCH: Facts = Facts {
+    jobs: &[
+        (&[(0, &[0], &[])], &[2, 3]),
+        (&[(3, &[5], &[])], &[4]),
+        (&[(2, &[2], &[])], &[4]),
+        (&[(0, &[0], &[])], &[]),
+    ],
+    capacities: &[3],
+    budgets: &[],
+};
+
+/// Job 2 of four has a longer mode that asks for as much.
+const LONGER_MODE: Facts = Facts {
+    jobs: &[
+        (&[(0, &[0], &[])], &[2, 3]),
+        (&[(3, &[2], &[]), (4, &[2], &[])], &[4]),
+        (&[(2, &[2], &[])], &[4]),
+        (&[(0, &[0], &[])], &[]),
     ],
     capacities: &[3],
     budgets: &[],
@@ -130,11 +225,121 @@ const SHORT_OR_CHEAP: Facts = Facts {
     budgets: &[4],
 };
 
+/// Two jobs of which each uses up one of two budgets.
+const TWO_BUDGETS: Facts = Facts {
+    jobs: &[
+        (&[(1, &[], &[3, 0]), (1, &[], &[0, 3])], &[]),
+        (&[(1, &[], &[3, 0]), (1, &[], &[0, 3])], &[]),
+    ],
+    capacities: &[],
+    budgets: &[3, 3],
+};
+
 const FOUR_PLACED: &[(u8, u8, u32)] = &[(3, 1, 0), (2, 1, 0), (1, 1, 0), (4, 1, 0)];
 
 const ALL_PLACED: &[(u8, u8, u32)] = &[(3, 1, 0), (2, 1, 0), (1, 1, 0), (4, 1, 0), (5, 1, 3)];
 
 const SHORT_PLACED: &[(u8, u8, u32)] = &[(1, 1, 0), (2, 1, 0)];
+
+const CASES: [Case; 10] = [
+    Case {
+        name: "the root",
+        facts: NO_LENGTH,
+        front: &[],
+        eligible: &[3, 5],
+        children: &[Line::Placed(3, 1, 0), Line::Placed(5, 1, 0)],
+    },
+    Case {
+        name: "a start after what is in use",
+        facts: NO_LENGTH,
+        front: FOUR_PLACED,
+        eligible: &[5],
+        children: &[Line::Placed(5, 1, 3)],
+    },
+    Case {
+        name: "a leaf",
+        facts: NO_LENGTH,
+        front: ALL_PLACED,
+        eligible: &[],
+        children: &[],
+    },
+    Case {
+        name: "a start after the predecessors",
+        facts: IN_TURN,
+        front: &[(1, 1, 0), (2, 1, 0), (3, 1, 3)],
+        eligible: &[4],
+        children: &[Line::Placed(4, 1, 5)],
+    },
+    Case {
+        name: "more than there is",
+        facts: TOO_MUCH,
+        front: &[(1, 1, 0)],
+        eligible: &[2, 3],
+        children: &[Line::Shut(2, 1, Shut::NoCapacity(1)), Line::Placed(3, 1, 0)],
+    },
+    Case {
+        name: "a needless mode",
+        facts: LONGER_MODE,
+        front: &[(1, 1, 0)],
+        eligible: &[2, 3],
+        children: &[
+            Line::Placed(2, 1, 0),
+            Line::Shut(2, 2, Shut::Inefficient(1)),
+            Line::Placed(3, 1, 0),
+        ],
+    },
+    Case {
+        name: "a budget for the cheap mode",
+        facts: SHORT_OR_CHEAP,
+        front: SHORT_PLACED,
+        eligible: &[3],
+        children: &[Line::Shut(3, 1, Shut::NoBudget(1)), Line::Placed(3, 2, 0)],
+    },
+    Case {
+        name: "two budgets",
+        facts: TWO_BUDGETS,
+        front: &[],
+        eligible: &[1, 2],
+        children: &[
+            Line::Placed(1, 1, 0),
+            Line::Placed(1, 2, 0),
+            Line::Placed(2, 1, 0),
+            Line::Placed(2, 2, 0),
+        ],
+    },
+    Case {
+        name: "the first budget used up",
+        facts: TWO_BUDGETS,
+        front: &[(1, 1, 0)],
+        eligible: &[2],
+        children: &[Line::Shut(2, 1, Shut::NoBudget(1)), Line::Placed(2, 2, 0)],
+    },
+    Case {
+        name: "the second budget used up",
+        facts: TWO_BUDGETS,
+        front: &[(1, 2, 0)],
+        eligible: &[2],
+        children: &[Line::Placed(2, 1, 0), Line::Shut(2, 2, Shut::NoBudget(2))],
+    },
+];
+
+/// Compares a front's eligible jobs and its children with those of the case.
+fn holds(rt: &impl Abort, alloc: Global, project: &Project, case: &Case) {
+    let node = node_of(rt, alloc, project, case.front);
+    let jobs = eligible(project, &node);
+    assert!(rt; is_set(jobs, case.eligible), "{}", case.name);
+    let all = children(alloc, project, &node).expect(rt, "memory");
+    assert!(rt; are_lines(&all, case.children), "{}", case.name);
+}
+
+#[test]
+fn children_of_fronts(rt: HostRuntime) -> Result<(), Fail> {
+    for case in &CASES {
+        let project = project_of(rt.alloc(), case.facts)?;
+        holds(&rt, rt.alloc(), &project, case);
+    }
+    Ok(())
+}
 
 #[test]
 fn a_copy_is_apart(rt: HostRuntime) -> Result<(), Fail> {
