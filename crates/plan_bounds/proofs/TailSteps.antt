@@ -1,17 +1,15 @@
 -- The tail bound, one job further.
-use Rattle.std.proofs.Common.{◌≡◌, ℕ, ◌+◌, ◌<◌, ◌≤◌, max, ◌⊎◌, inl, inr, arith, refl, sym, ap, subst, ◌∙◌, true, false, cond, Bool, List, [], ◌∷◌, ◌++◌, length, take, get_or}
-use Rattle.std.specs.Prelude.{All, filter, sum_by}
+use Rattle.std.proofs.Common.{◌≡◌, ℕ, ◌+◌, ◌<◌, ◌≤◌, max, ◌⊎◌, inl, inr, arith, refl, sym, ap, subst, ◌∙◌, true, false, List, [], ◌∷◌}
+use Rattle.std.specs.Prelude.{All, sum_by}
 use Rattle.std.proofs.lemmas.Bool.{cases_Bool, cases_eq, cases_lt, both_ways}
-use Rattle.std.proofs.lemmas.List.{append-nil}
-use Rattle.std.proofs.lemmas.List.Elements.{All-cons, All-nil, All-head, filter_more}
+use Rattle.std.proofs.lemmas.List.Elements.{All-cons, All-nil, All-head}
 use Rattle.rcpsp_model.specs.declared.parts.Entry.{Entry}
-use Rattle.rcpsp_model.specs.Project.{Project, IsJob, IsAcyclic, is_before, job_count}
-use Rattle.rcpsp_model.specs.Schedule.{finish, end_of}
+use Rattle.rcpsp_model.specs.Project.{Project, IsJob, IsAcyclic, job_count}
+use Rattle.rcpsp_model.specs.Schedule.{end_of}
 use Rattle.rcpsp_model.specs.Chain.{least_duration, IsChain, IsTail}
 use Rattle.rcpsp_model.specs.Tree.{has_job, IsFront}
 use Rattle.rcpsp_model.specs.Bounds.{ready, TailValue, front, chain, IsTailBound}
 use Rattle.rcpsp_model.proofs.Sound.{IsSound, front-sound}
-use Rattle.rcpsp_model.proofs.FrontLemmas.{end-push}
 
 -- the bound is the end of the front, or what one of the unplaced jobs leads to
 pub Reached : Project → List Entry → ℕ → Type 0

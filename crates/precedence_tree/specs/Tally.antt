@@ -14,7 +14,8 @@ finish_of P F j = end_of P (filter (λ e. e.job == j) F)
 abbrev pub least_used : Project → List Entry → ℕ → ℕ
 least_used P F l = sum_by (λ e. least_need P e.job l) F
 
--- the tally says of each job when it finishes among the entries, and of each nonrenewable resource what they need and what they need at least
+-- the tally says of each job when it finishes among the entries, and of each nonrenewable resource what they need, and
+-- what they need at least
 pub record IsTallyOf (P : Project) (F : List Entry) (tally : Tally) : Type 0 where
   pub finishes : (j : ℕ) → IsJob P j → slice_index tally.finishes (j - 1) ≡ finish_of P F j
   pub needs : (l : ℕ) → IsNonrenewable P l → slice_index tally.needs (l - 1) ≡ used P F l

@@ -10,6 +10,8 @@ mod leaf;
 mod members;
 mod node;
 mod tally;
+#[cfg(test)]
+mod tests;
 
 pub use branch::{Children, child, children};
 pub use frontier::eligible;

@@ -1,12 +1,13 @@
-use Rattle.std.proofs.Common.{◌≡◌, ◌+◌, max, arith, sym, ap, ◌∙◌, subst}
+use Rattle.std.proofs.Common.{◌≡◌, ◌+◌, max, arith, sym, ◌∙◌, subst}
 use Rattle.rcpsp_model.specs.Project.{IsJob}
+use Rattle.rcpsp_model.specs.Bounds.{ready}
 use Rattle.rcpsp_model.proofs.TailLemmas.{has_tail_law}
 use Rattle.plan_bounds.proofs.TailSteps.{TailSoFar, tail-none, tail-placed, tail-open, tail-all}
 use Rattle.plan_bounds.proofs.chains.tail_bound_of.Goals as goal
 use Rattle.plan_bounds.proofs.chains.tail_bound_of.Goals.{then-not-has, else-not-has}
 
 pub loop-job-init : goal.loop-job-init
-loop-job-init c = tail-none c.args.p.now c.args.node.now.front c.end-bound.result (c.end-bound.ensures ∙ c.requires.end)
+loop-job-init c = tail-none c.args.p.now c.args.node.now.front _ (let end = c.requires.end in omega arith)
 
 pub loop-job-preserved : goal.loop-job-preserved
 loop-job-preserved c =
@@ -15,7 +16,7 @@ loop-job-preserved c =
     elim c.if-not-has.branch [
       | then-not-has w ↦
           tail-open P F n old c.if-not-has.bound w.tail.result job (sym (c.placed-placed.ensures n job.0) ∙ sym w.if-not-has.ensures) w.tail.ensures.value
-          (w.bound-is ∙ w.max-bound.ensures ∙ ap (λ x. max old (x + w.tail.result)) w.ready-start.ensures.value) c.loop-job.invariant
+          (let now : c.if-not-has.bound ≡ max old (ready P F n + w.tail.result) = omega arith in now) c.loop-job.invariant
       | else-not-has w ↦
           subst (TailSoFar P F (n + 1)) (sym w.bound-is) (tail-placed P F n old (sym (c.placed-placed.ensures n job.0) ∙ sym w.if-not-has.ensures) c.loop-job.invariant)
     ]

@@ -12,6 +12,6 @@ loop-done-preserved c =
     elim c.if-not-has.branch [
       | then-not-has w ↦
           let more = sum_beside-open placed (λ j. least_work P j c.args.resource) n (sym w.if-not-has.ensures) in
-          let value = w.least_work-sum.ensures.value in let limit = w.least_work-sum.ensures.limit in let is = w.sum-is in (omega arith, omega arith)
+          let is = w.sum-is in (omega arith, omega arith)
       | else-not-has w ↦ let same = sum_beside-placed placed (λ j. least_work P j c.args.resource) n (sym w.if-not-has.ensures) in let is = w.sum-is in (omega arith, omega arith)
     ]

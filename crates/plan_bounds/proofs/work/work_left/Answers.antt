@@ -7,7 +7,7 @@ use Rattle.rcpsp_model.specs.Modes.{least_work}
 use Rattle.rcpsp_model.specs.Tree.{last_start}
 use Rattle.rcpsp_model.specs.Bounds.{periods_left}
 use Rattle.rcpsp_model.proofs.FrontLemmas.{front-of}
-use Rattle.plan_bounds.proofs.RestSteps.{few-front, sum_beside-front}
+use Rattle.plan_bounds.proofs.RestSteps.{sum_beside-front}
 use Rattle.plan_bounds.proofs.work.work_left.Goals as goal
 
 pub placed_work-requires-clause-front : goal.placed_work-requires-clause-front
