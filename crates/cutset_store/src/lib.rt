@@ -9,6 +9,8 @@ mod judging;
 mod needs;
 mod places;
 mod record;
+#[cfg(test)]
+mod tests;
 mod usage;
 
 pub use dominance::dominates;
