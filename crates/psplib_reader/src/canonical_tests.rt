@@ -160,6 +160,119 @@ const NO_RESOURCE: Worked<'static> = Worked {
     amounts: "",
 };
 
+/// As `ONE_RESOURCE`, with room for both jobs at once.
+const ROOM_FOR_BOTH: Worked<'static> = Worked {
+    amounts: "R 1\n4\n",
+    ..ONE_RESOURCE
+};
+
+/// As `ONE_RESOURCE`, with a job that asks for more than there is.
+const TOO_MUCH: Worked<'static> = Worked {
+    modes: "1 1 0 0\n2 1 3 5\n3 1 2 2\n4 1 0 0\n",
+    ..ONE_RESOURCE
+};
+
+/// As `TWO_MODES`, with a budget that no modes keep.
+const TOO_SMALL_A_BUDGET: Worked<'static> = Worked {
+    amounts: "R 1 N 1\n2 1\n",
+    ..TWO_MODES
+};
+
+/// As `TWO_MODES`, with a budget that all modes keep.
+const WHOLE_BUDGET: Worked<'static> = Worked {
+    amounts: "R 1 N 1\n2 6\n",
+    ..TWO_MODES
+};
+
+/// One job with the greatest numbers.
+const GREATEST_NUMBERS: Worked<'static> = Worked {
+    counts: (1, 1, 0),
+    horizon: 10000,
+    precedence: "1 1 0\n",
+    heading: "jobnr. mode duration R 1",
+    modes: "1 1 10000 1000000\n",
+    amounts: "R 1\n1000000\n",
+};
+
+/// Eighteen jobs, most of them in a short and a cheap mode, with two resources of each kind.
+const EIGHTEEN_JOBS: Worked<'static> = Worked {
+    counts: (18, 2, 2),
+    horizon: 95,
+    precedence: "1 1 3 2 3 4
+2 2 2 5 6
+3 2 2 7 8
+4 2 2 9 10
+5 2 1 11
+6 2 2 11 12
+7 2 1 12
+8 2 1 13
+9 2 2 13 14
+10 2 1 14
+11 2 1 15
+12 2 2 15 16
+13 2 1 16
+14 2 1 17
+15 2 1 18
+16 2 1 18
+17 2 1 18
+18 1 0
+",
+    heading: "jobnr. mode duration R 1 R 2 N 1 N 2",
+    modes: "1 1 0 0 0 0 0
+2 1 3 4 2 5 2
+2 5 2 2 2 1
+3 1 4 3 3 4 3
+2 6 2 2 2 1
+4 1 2 2 4 3 3
+2 4 1 3 1 1
+5 1 4 4 0 6 1
+2 7 2 0 3 0
+6 1 2 3 2 2 4
+2 4 2 1 1 2
+7 1 3 0 4 4 2
+2 5 0 2 2 1
+8 1 5 2 3 5 5
+2 8 1 2 2 2
+9 1 3 3 3 3 2
+2 5 2 2 1 1
+10 1 4 4 0 4 4
+2 7 2 0 2 2
+11 1 5 5 2 7 3
+2 9 3 1 3 1
+12 1 3 2 3 2 2
+2 5 1 2 1 1
+13 1 4 3 2 4 3
+2 6 2 1 2 1
+14 1 2 2 2 3 1
+2 4 1 1 1 0
+15 1 6 6 1 6 5
+2 9 4 1 3 2
+16 1 3 3 4 2 3
+2 5 2 3 1 1
+17 1 4 2 3 3 2
+2 6 1 2 1 1
+18 1 0 0 0 0 0
+",
+    amounts: "R 1 R 2 N 1 N 2\n14 10 70 45\n",
+};
+
+/// As `EIGHTEEN_JOBS`, with a smaller budget.
+const SMALLER_BUDGET: Worked<'static> = Worked {
+    amounts: "R 1 R 2 N 1 N 2\n14 10 70 30\n",
+    ..EIGHTEEN_JOBS
+};
+
+/// A line for each of so many jobs, with its number and then the same words.
+fn numbered(alloc: Global, jobs: u8, words: &str) -> Result<String, AllocError> {
+    let mut lines = String::new(alloc);
+    for before in 0..jobs {
+        let job = before + 1;
+        let line = format!(in alloc; "{job} {words}\n")?;
+        lines.push_str(line.as_str())?;
+    }
+    Ok(lines)
+}
+
 /// The project `TWO_MODES` as the library's files have it, with LF for CR and LF.
 const LIBRARY_TEXT: &str = "************************************************************************
 file with basedata            : mm4_.bas
@@ -234,4 +347,33 @@ fn canonical_texts_of_projects_with_modes_are_printed(rt: HostRuntime) {
     check_canonical(&rt, &TWO_MODES);
     check_canonical(&rt, &ONE_CHOICE);
     check_canonical(&rt, &TWO_BUDGETS);
+}
+
+#[test]
+fn canonical_texts_of_other_amounts_are_printed(rt: HostRuntime) {
+    check_canonical(&rt, &ROOM_FOR_BOTH);
+    check_canonical(&rt, &TOO_MUCH);
+    check_canonical(&rt, &TOO_SMALL_A_BUDGET);
+    check_canonical(&rt, &WHOLE_BUDGET);
+    check_canonical(&rt, &GREATEST_NUMBERS);
+}
+
+#[test]
+fn canonical_texts_of_eighteen_jobs_are_printed(rt: HostRuntime) {
+    check_canonical(&rt, &EIGHTEEN_JOBS);
+    check_canonical(&rt, &SMALLER_BUDGET);
+}
+
+#[test]
+fn the_canonical_text_of_the_most_jobs_is_printed(rt: HostRuntime) {
+    let rows = numbered(rt.alloc(), 128, "1 0").expect(&rt, "memory");
+    let worked = Worked {
+        counts: (128, 0, 0),
+        horizon: 0,
+        precedence: rows.as_str(),
+        heading: "jobnr. mode duration",
+        modes: rows.as_str(),
+        amounts: "",
+    };
+    check_canonical(&rt, &worked);
 }
