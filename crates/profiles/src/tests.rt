@@ -64,6 +64,15 @@ fn place_at(rt: &impl Abort, project: &Project, profile: &mut Profile, job: u8, 
     assert_eq!(rt; profile.place(project, job, 1, start), Ok(()));
 }
 
+/// A copy of the profile with room for one more entry.
+fn copy_of(rt: &impl Abort, project: &Project, profile: &Profile) -> Profile
+    requires { IsProfileOf project.now profile.now }
+    ensures { IsProfileOf project.now result }
+{
+    project.known();
+    profile.try_copy(1).expect(rt, "memory")
+}
+
 /// Durations and requests of eighteen jobs.
 const JOBS: [(u32, [u32; 2]); 18] = [
     (0, [0, 0]),
@@ -206,7 +215,7 @@ fn room_is_made_and_used(rt: HostRuntime) -> Result<(), Fail> {
     assert_eq!(rt; profile.reserve(2), Ok(()));
     place_at(&rt, &project, &mut profile, 1, 0);
     assert_eq!(rt; profile.entries().len(), 1);
-    let mut copy = profile.try_copy(1)?;
+    let mut copy = copy_of(&rt, &project, &profile);
     place_at(&rt, &project, &mut copy, 2, 1);
     assert_eq!(rt; profile.entries().len(), 1);
     assert_eq!(rt; copy.entries().len(), 2);
