@@ -9,7 +9,7 @@ use Rattle.rcpsp_model.specs.Project.{Project, modes_of, mode_of, no_mode, durat
 use Rattle.rcpsp_model.specs.Schedule.{finish, end_of, entries, IsFeasible}
 use Rattle.rcpsp_model.specs.Chain.{IsGreatest, least_duration, IsChain}
 use Rattle.rcpsp_model.specs.Tree.{has_job, last_start, Completes}
-use Rattle.rcpsp_model.specs.Bounds.{IsTailBound, IsWorkBound, IsLowerBound, HoldsWork, LowerValue, tail, work, ready, TailValue, front, chain}
+use Rattle.rcpsp_model.specs.Bounds.{IsTailBound, IsWorkBound, IsLowerBound, HoldsWork, LowerValue, of_tail, of_work, ready, TailValue, of_front, of_chain}
 use Rattle.rcpsp_model.specs.Laws.{TailLaw, JobTailLaw, GapLaw, LowerLaw}
 use Rattle.rcpsp_model.proofs.Lists.{In, In-filter, In-from_Contains, In-All, total, sum_by-total}
 use Rattle.rcpsp_model.proofs.Entries.{entry_at}
@@ -51,8 +51,8 @@ chain-end P s a f x (k ∷ js) i c =
     omega arith
 
 tail-value : (P : Project) (F : List Entry) (s : List Placing) (t : ℕ) → IsAcyclic P → Completes P F s → TailValue P F t → t ≤ end_of P (entries s)
-tail-value P F s t a c front = end-le P F (end_of P (entries s)) (λ x i. finish-le-end P (entries s) x (kept-In P F s c x i))
-tail-value P F s t a c (chain j js job is_chain unplaced) =
+tail-value P F s t a c of_front = end-le P F (end_of P (entries s)) (λ x i. finish-le-end P (entries s) x (kept-In P F s c x i))
+tail-value P F s t a c (of_chain j js job is_chain unplaced) =
     let at = entry_at 1 s j job.0 (let w = c.feasible.whole in omega (arith, job.1)) in
     let x = at.0 in
     let free = All-head (λ i. has_job F i ≡ false) j js unplaced in
@@ -83,8 +83,8 @@ pub lower_law : LowerLaw
 lower_law P F s b a f c is = by_value b is.attained
   where
     by_value : (v : ℕ) → LowerValue P F v → v ≤ end_of P (entries s)
-    by_value _ (tail v bound) = tail_law P F s v a c bound
-    by_value _ (work k v bound) = work_law P F s k v f c bound
+    by_value _ (of_tail v bound) = tail_law P F s v a c bound
+    by_value _ (of_work k v bound) = work_law P F s k v f c bound
 
 -- A greatest number is one, and so is each bound.
 pub greatest-one : (Q : ℕ → Type 0) (a b : ℕ) → IsGreatest Q a → IsGreatest Q b → a ≡ b

@@ -1,9 +1,8 @@
 -- The children of a front: each eligible job and mode has one, and their list is one.
-use Rattle.std.proofs.Common.{◌≡◌, ℕ, zero, suc, ◌+◌, ◌≤◌, max, inl, inr, arith, refl, sym, ap, subst, ◌∙◌, List, [], ◌∷◌, ◌++◌, length, Bool, true, cond, eqb, ◌||◌, not}
+use Rattle.std.proofs.Common.{◌≡◌, ℕ, ◌+◌, ◌≤◌, max, inl, inr, arith, refl, sym, ap, subst, ◌∙◌, List, [], ◌∷◌, ◌++◌, length, Bool, true, cond, eqb, ◌||◌, not}
 use Rattle.std.specs.Prelude.{Contains}
-use Rattle.std.proofs.lemmas.Bool.{cases_eq, cases_lt}
+use Rattle.std.proofs.lemmas.Bool.{cases_lt}
 use Rattle.std.proofs.lemmas.List.Sums.{sum_by_push}
-use Rattle.std.proofs.lemmas.List.Elements.{Contains-push, Contains-append_left, Contains-append_right}
 use Rattle.rcpsp_model.specs.declared.parts.Child.{Child}
 use Rattle.rcpsp_model.specs.declared.parts.Child.TheVariants.{Placed, Shut}
 use Rattle.rcpsp_model.specs.declared.parts.Entry.{Entry}
@@ -12,13 +11,14 @@ use Rattle.rcpsp_model.specs.declared.parts.Shut.TheVariants.{NoCapacity, NoBudg
 use Rattle.rcpsp_model.specs.Project.{Project, job_count, jobs, modes_of, need, request, capacity, budget, duration, is_before, Before, IsMode}
 use Rattle.rcpsp_model.specs.Schedule.{finish, used, end_of, calm}
 use Rattle.rcpsp_model.specs.Modes.{least_need, LacksCapacity, IsExecutable, IsInefficientBy, IsEfficient}
-use Rattle.rcpsp_model.specs.Tree.{has_job, CanStart, IsEligible, IsFront, rest_need, HasGap, LeavesBudgets, entry_at, extended, IsShut, IsPlacedChild, IsChild, ByMode, ByJob, ByJobs}
+use Rattle.rcpsp_model.specs.Tree.{has_job, CanStart, IsEligible, IsFront, rest_need, HasGap, LeavesBudgets, entry_at, extended, IsShut, IsPlacedChild, IsChild, Choice, choices}
 use Rattle.rcpsp_model.specs.Laws.{ChildrenLaw, OneListLaw, ListExchangeLaw}
-use Rattle.rcpsp_model.proofs.Lists.{In, In-push, In-append, In-from_Contains, All-from_In, total-same, sum_by-filter}
+use Rattle.rcpsp_model.proofs.Lists.{In-from_Contains, Contains-from_In, All-from_In, total-same, sum_by-filter}
 use Rattle.rcpsp_model.proofs.Numbers.{least-one, Decided, le_decided, lt_decided, below_decided, least_below, least_of, both_decided, implies_decided, true_decided, false_decided}
 use Rattle.rcpsp_model.proofs.Usage.{finish-le-end, can_start_decided}
 use Rattle.rcpsp_model.proofs.ModeLemmas.{inefficient_decided, renewable_decided, nonrenewable_decided}
 use Rattle.rcpsp_model.proofs.Successors.{before-job}
+use Rattle.rcpsp_model.proofs.ChoiceLemmas.{choice-In, choice-is, zip-left, zip-right, zip-one, some-zip}
 use Rattle.rcpsp_model.proofs.FrontLemmas.{fits-past_end, last-le-end}
 use Rattle.rcpsp_model.proofs.ExchangeLemmas.{exchange_law}
 use Rattle.rcpsp_model.proofs.TreeLemmas.{front-push}
@@ -43,30 +43,6 @@ rest_need-start P F j m t u l =
     (λ i _. ap (λ (b : Bool). cond (not b) (g i) 0) (has_job-start F j m t u i)) in
     omega arith
 
--- Among the children is the one by each eligible job and each of its modes.
-in_modes : (P : Project) (F : List Entry) (j n m : ℕ) (cs : List (Child (List Entry))) → ByMode P F j n cs → 1 ≤ m → m ≤ n → (c : Child (List Entry)) × Contains cs c × IsChild P F j m c
-in_modes P F j zero m cs b low high = absurd (omega arith)
-in_modes P F j (suc n) m cs b low high =
-    elim (cases_eq m (suc n)) [
-      | inl e ↦ (b.1, subst (λ (xs : List (Child (List Entry))). Contains xs b.1) (sym b.2) (Contains-push b.0 b.1), subst (λ (k : ℕ). IsChild P F j k b.1) (sym e) b.4)
-      | inr ne ↦ let r = in_modes P F j n m b.0 b.3 low (omega arith) in
-          (r.0, subst (λ (xs : List (Child (List Entry))). Contains xs r.0) (sym b.2) (Contains-append_left b.0 (b.1 ∷ []) r.0 r.1), r.2)
-    ]
-
-in_jobs : (P : Project) (F : List Entry) (n j m : ℕ) (cs : List (Child (List Entry))) → ByJobs P F n cs → 1 ≤ j → j ≤ n → IsEligible P F j → IsMode P j m → (c : Child (List Entry)) × Contains cs c × IsChild P F j m c
-in_jobs P F zero j m cs b low high el mode = absurd (omega arith)
-in_jobs P F (suc n) j m cs b low high el mode =
-    let more = b.2 in
-    elim (cases_eq j (suc n)) [
-      | inl e ↦ elim (subst (λ (k : ℕ). ByJob P F k more.0) (sym e) more.2) [
-        | inl here ↦ let r = in_modes P F j (length (modes_of P j)) m more.0 here.1 mode.0 mode.1 in
-            (r.0, subst (λ (xs : List (Child (List Entry))). Contains xs r.0) (sym more.1) (Contains-append_right b.0 more.0 r.0 r.1), r.2)
-        | inr none ↦ absurd (none.0 el)
-      ]
-      | inr ne ↦ let r = in_jobs P F n j m b.0 b.1 low (omega arith) el mode in
-          (r.0, subst (λ (xs : List (Child (List Entry))). Contains xs r.0) (sym more.1) (Contains-append_left b.0 more.0 r.0 r.1), r.2)
-    ]
-
 -- Where no cause to shut it applies, the child is placed at the least start.
 child-placed : (P : Project) (F : List Entry) (e : Entry) (c : Child (List Entry)) → IsPlacedChild P F e → IsChild P F e.job e.mode c → c ≡ Placed (F ++ e ∷ [])
 child-placed P F e (Placed G) p c =
@@ -84,39 +60,20 @@ child-placed P F e (Shut i n (NoBudget l)) p c =
     absurd (omega arith)
 child-placed P F e (Shut i n (Inefficient m)) p c = absurd (p.efficient m c.2.2.attained)
 
--- each child is one by some job and mode
-abbrev IsSomeChild : Project → List Entry → Child (List Entry) → Type 0
-IsSomeChild P F c = (j : ℕ) × (m : ℕ) × IsChild P F j m c
-
-of_modes : (P : Project) (F : List Entry) (j n : ℕ) (cs : List (Child (List Entry))) → ByMode P F j n cs → (c : Child (List Entry)) → In cs c → IsSomeChild P F c
-of_modes P F j zero cs b c i = absurd (subst (λ (xs : List (Child (List Entry))). In xs c) b i)
-of_modes P F j (suc n) cs b c i = elim (In-push b.0 b.1 c (subst (λ (xs : List (Child (List Entry))). In xs c) b.2 i)) [
-  | inl old ↦ of_modes P F j n b.0 b.3 c old
-  | inr new ↦ (j, suc n, subst (IsChild P F j (suc n)) new b.4)
-]
-
-of_jobs : (P : Project) (F : List Entry) (n : ℕ) (cs : List (Child (List Entry))) → ByJobs P F n cs → (c : Child (List Entry)) → In cs c → IsSomeChild P F c
-of_jobs P F zero cs b c i = absurd (subst (λ (xs : List (Child (List Entry))). In xs c) b i)
-of_jobs P F (suc n) cs b c i =
-    let more = b.2 in
-    elim (In-append b.0 more.0 c (subst (λ (xs : List (Child (List Entry))). In xs c) more.1 i)) [
-      | inl old ↦ of_jobs P F n b.0 b.1 c old
-      | inr new ↦ elim more.2 [
-        | inl here ↦ of_modes P F (suc n) (length (modes_of P (suc n))) more.0 here.1 c new
-        | inr none ↦ absurd (subst (λ (xs : List (Child (List Entry))). In xs c) none.1 new)
-      ]
-    ]
+-- a child by a choice
+abbrev ByChoice : Project → List Entry → Choice → Child (List Entry) → Type 0
+ByChoice P F choice c = IsChild P F choice.job choice.mode c
 
 pub children_law : ChildrenLaw
 children_law P F cs f are = record {
   fronts = λ G i.
-      let one = of_jobs P F (job_count P) cs are (Placed G) (In-from_Contains cs (Placed G) i) in
+      let one = zip-right (ByChoice P F) (choices P F) cs are (Placed G) (In-from_Contains cs (Placed G) i) in
       let c = one.2 in
-      subst (IsFront P) (sym c.1) (front-push P F (entry_at one.0 one.1 c.0) f c.2.follows);
+      subst (IsFront P) (sym c.1) (front-push P F (entry_at one.0.job one.0.mode c.0) f c.2.follows);
   whole = λ e p.
-      let el = p.follows.eligible in
-      let r = in_jobs P F (job_count P) e.job e.mode cs are el.job.0 el.job.1 el p.follows.mode in
-      subst (Contains cs) (child-placed P F e r.0 p r.2) r.1;
+      let choice : Choice = record { job = e.job; mode = e.mode } in
+      let r = zip-left (ByChoice P F) (choices P F) cs are choice (choice-In P F e.job e.mode p.follows.eligible p.follows.mode) in
+      subst (Contains cs) (child-placed P F e r.0 p r.2) (Contains-from_In cs r.0 r.1);
 }
 
 pub list_exchange_law : ListExchangeLaw
@@ -215,21 +172,6 @@ some_child P F j m el mode =
           ]
     ]
 
--- Lists of children: there is one, and there are no two.
-some_by_mode : (P : Project) (F : List Entry) (j n : ℕ) → IsEligible P F j → n ≤ length (modes_of P j) → (cs : List (Child (List Entry))) × ByMode P F j n cs
-some_by_mode P F j zero el few = ([], refl)
-some_by_mode P F j (suc n) el few =
-    let before = some_by_mode P F j n el (omega arith) in
-    let c = some_child P F j (suc n) el (omega arith, few) in
-    (before.0 ++ c.0 ∷ [], (before.0, c.0, refl, before.1, c.1))
-
-by_mode-one : (P : Project) (F : List Entry) (j n : ℕ) (cs ds : List (Child (List Entry))) → ByMode P F j n cs → ByMode P F j n ds → cs ≡ ds
-by_mode-one P F j zero cs ds p q = p ∙ sym q
-by_mode-one P F j (suc n) cs ds p q =
-    let before = by_mode-one P F j n p.0 q.0 p.3 q.3 in
-    let last = child-one P F j (suc n) p.1 q.1 p.4 q.4 in
-    p.2 ∙ ap (λ (xs : List (Child (List Entry))). xs ++ p.1 ∷ []) before ∙ ap (λ (c : Child (List Entry)). q.0 ++ c ∷ []) last ∙ sym q.2
-
 pub eligible_decided : (P : Project) (F : List Entry) (j : ℕ) → Decided (IsEligible P F j)
 eligible_decided P F j =
     elim (both_decided (both_decided (le_decided 1 j) (le_decided j (job_count P))) (both_decided (false_decided (has_job F j)) (below_decided (λ i. Before P i j → has_job F i ≡ true) (λ i. implies_decided (true_decided (is_before P i j)) (true_decided (has_job F i))) (job_count P + 1)))) [
@@ -237,33 +179,8 @@ eligible_decided P F j =
       | inr no_ ↦ inr (λ e. no_ (e.job, (e.unplaced, λ i _. e.preds i)))
     ]
 
-some_by_job : (P : Project) (F : List Entry) (j : ℕ) → (cs : List (Child (List Entry))) × ByJob P F j cs
-some_by_job P F j = elim (eligible_decided P F j) [
-  | inl el ↦ let own = some_by_mode P F j (length (modes_of P j)) el (omega arith) in (own.0, inl (el, own.1))
-  | inr not_ ↦ ([], inr (not_, refl))
-]
-
-by_job-one : (P : Project) (F : List Entry) (j : ℕ) (cs ds : List (Child (List Entry))) → ByJob P F j cs → ByJob P F j ds → cs ≡ ds
-by_job-one P F j cs ds (inl p) (inl q) = by_mode-one P F j (length (modes_of P j)) cs ds p.1 q.1
-by_job-one P F j cs ds (inl p) (inr q) = absurd (q.0 p.0)
-by_job-one P F j cs ds (inr p) (inl q) = absurd (p.0 q.0)
-by_job-one P F j cs ds (inr p) (inr q) = p.1 ∙ sym q.1
-
-some_by_jobs : (P : Project) (F : List Entry) (n : ℕ) → (cs : List (Child (List Entry))) × ByJobs P F n cs
-some_by_jobs P F zero = ([], refl)
-some_by_jobs P F (suc n) =
-    let before = some_by_jobs P F n in let more = some_by_job P F (suc n) in
-    (before.0 ++ more.0, (before.0, before.1, (more.0, refl, more.1)))
-
-by_jobs-one : (P : Project) (F : List Entry) (n : ℕ) (cs ds : List (Child (List Entry))) → ByJobs P F n cs → ByJobs P F n ds → cs ≡ ds
-by_jobs-one P F zero cs ds p q = p ∙ sym q
-by_jobs-one P F (suc n) cs ds p q =
-    let before = by_jobs-one P F n p.0 q.0 p.1 q.1 in
-    let more_p = p.2 in let more_q = q.2 in
-    let more = by_job-one P F (suc n) more_p.0 more_q.0 more_p.2 more_q.2 in
-    more_p.1 ∙ ap (λ (xs : List (Child (List Entry))). xs ++ more_p.0) before ∙ ap (λ (xs : List (Child (List Entry))). q.0 ++ xs) more ∙ sym more_q.1
-
+-- Of lists of children there is one.
 pub one_list_law : OneListLaw
 one_list_law P F =
-    let all = some_by_jobs P F (job_count P) in
-    record { children = all.0; are = all.1; only = λ ds are. by_jobs-one P F (job_count P) ds all.0 are all.1 }
+    let all = some-zip (ByChoice P F) (choices P F) (λ c i. let is = choice-is P F c i in some_child P F c.job c.mode is.0 is.1) in
+    record { children = all.0; are = all.1; only = λ ds are. zip-one (ByChoice P F) (λ c a b. child-one P F c.job c.mode a b) (choices P F) ds all.0 are all.1 }

@@ -11,7 +11,8 @@ use Rattle.rcpsp_model.specs.Tree.{has_job, Follows, IsFront, InTurn, Completes,
 use Rattle.rcpsp_model.proofs.Lists.{total-le, In, In-from_Contains, Contains-from_In, In-All, total, sum_by-total, In-le-total}
 use Rattle.rcpsp_model.proofs.Entries.{DistinctJobs, total-others, entries-distinct, distinct-push}
 use Rattle.rcpsp_model.proofs.ModeLemmas.{least_need-le, sum_by-unplaced, cond-mono}
-use Rattle.rcpsp_model.proofs.Usage.{load, usage-total, load-active, finish-le-end, cap_law}
+use Rattle.rcpsp_model.proofs.Usage.{load, usage-total, load-active, finish-le-end}
+use Rattle.rcpsp_model.proofs.CalendarLemmas.{cap_law}
 
 -- The entries of a front have distinct jobs.
 distinct-in_turn : (P : Project) (F es : List Entry) → InTurn (Follows P) F es → DistinctJobs F → DistinctJobs (F ++ es)

@@ -1,22 +1,22 @@
 -- The small projects, mostly by computing.
-use Rattle.std.proofs.Common.{◌≡◌, ℕ, suc, ◌+◌, ◌-◌, ◌<◌, ◌≤◌, inl, inr, arith, refl, ap, subst, List, [], ◌∷◌, ◌++◌, length, Bool, true, false, eqb, leb, ◌||◌}
+use Rattle.std.proofs.Common.{◌≡◌, ℕ, ◌+◌, ◌-◌, ◌<◌, ◌≤◌, inl, inr, arith, refl, ap, subst, [], ◌∷◌, length, Bool, true, false, eqb, leb, ◌||◌}
 use Rattle.std.specs.Prelude.{slice_index}
-use Rattle.std.proofs.lemmas.Bool.{leb-true, both_ways, cases_lt}
-use Rattle.rcpsp_model.specs.declared.parts.Child.{Child}
-use Rattle.rcpsp_model.specs.declared.parts.Child.TheVariants.{Placed}
+use Rattle.std.proofs.lemmas.Bool.{leb-true, cases_lt}
 use Rattle.rcpsp_model.specs.declared.parts.Entry.{Entry}
 use Rattle.rcpsp_model.specs.Project.{Project, job_count, modes_of, mode_of, successors_of, duration, request, need, capacity, budget, is_before, Before, IsProject}
 use Rattle.rcpsp_model.specs.Schedule.{finish, usage, used, cap, calm}
 use Rattle.rcpsp_model.specs.Chain.{least_duration}
 use Rattle.rcpsp_model.specs.Modes.{least_work, TakesLess, time, renewable, nonrenewable, IsEfficient}
-use Rattle.rcpsp_model.specs.Tree.{has_job, CanStart, entry_at, IsPlacedChild, ByJobs}
+use Rattle.rcpsp_model.specs.Tree.{CanStart, entry_at, IsPlacedChild}
 use Rattle.rcpsp_model.specs.Dominance.{Dominates}
-use Rattle.rcpsp_model.specs.Examples.{at, two_in_turn, TwoInTurn, zero_lengths, before_fifth, ZeroLengths, short_or_cheap, ShortOrCheap, needs_differ, used_3, used_1, used_1_too, NeedsDiffer}
+use Rattle.rcpsp_model.specs.Examples.{at, two_in_turn, TwoInTurn, after_a_break, AfterABreak, zero_lengths, before_fifth, ZeroLengths, short_or_cheap, ShortOrCheap, needs_differ, used_3, used_1, used_1_too, NeedsDiffer}
 use Rattle.rcpsp_model.proofs.Lists.{In, In-from_Contains}
 use Rattle.rcpsp_model.proofs.Entries.{same_entry}
 use Rattle.rcpsp_model.proofs.Usage.{usage-total}
 use Rattle.rcpsp_model.proofs.CompletesLemmas.{precedes}
 use Rattle.rcpsp_model.proofs.WorkLemmas.{quotient_law}
+use Rattle.rcpsp_model.proofs.ChildTests.{placed_test-true}
+use Rattle.rcpsp_model.proofs.BoundTests.{work_test-true}
 use Rattle.rcpsp_model.proofs.TreeTests.{front_test-true, tail_bound-from_tests, rank_test-true}
 use Rattle.rcpsp_model.proofs.Tests.{all_below-true, all_to-true, All-every, project-from_tests, feasible_test-true, preds_test-true, fits_test-true}
 
@@ -35,6 +35,23 @@ two_facts = record {
   work_bound = (quotient_law two_in_turn [] 1 4 (omega arith, omega arith) (omega arith) (omega arith)).1 refl;
 }
 
+break_project : IsProject after_a_break
+unfolding job_count successors_of
+break_project = project-from_tests after_a_break (λ j. j) refl refl
+
+pub break_facts : AfterABreak
+unfolding job_count modes_of mode_of successors_of duration request need capacity budget is_before cap calm least_duration least_work
+break_facts = record {
+  project = break_project;
+  feasible = feasible_test-true after_a_break (at 1 0 ∷ at 1 2 ∷ at 1 5 ∷ at 1 7 ∷ []) refl;
+  in_the_break = λ f. let over : 2 ≤ 1 = f.capacity 1 1 (omega arith, omega arith) (omega arith) in omega arith;
+  front = (
+    (placed_test-true after_a_break [] 1 1 0 refl).follows,
+    ((placed_test-true after_a_break (entry_at 1 1 0 ∷ []) 2 1 2 refl).follows, tt),
+  );
+  work_bound = work_test-true after_a_break [] 1 refl;
+}
+
 -- where a job has one mode, it is efficient
 only-efficient : (P : Project) (j : ℕ) → length (modes_of P j) ≡ 1 → IsEfficient P j 1
 only-efficient P j one n b =
@@ -46,10 +63,6 @@ only-efficient P j one n b =
     no_less (time h) = omega arith
     no_less (renewable k r h) = omega arith
     no_less (nonrenewable l r h) = omega arith
-
--- a placed job has no children
-no_children : (P : Project) (F : List Entry) (j : ℕ) → has_job F (suc j) ≡ true → ByJobs P F j [] → ByJobs P F (suc j) []
-no_children P F j placed before = ([], before, ([], refl, inr (λ el. both_ways (has_job F (suc j)) el.unplaced placed, refl)))
 
 abbrev fifth : Entry
 fifth = entry_at 5 1 3
@@ -98,10 +111,7 @@ zero_facts = record {
   feasible = feasible_test-true zero_lengths (at 1 0 ∷ at 1 0 ∷ at 1 0 ∷ at 1 0 ∷ at 1 3 ∷ []) refl;
   rank = (3 ∷ 2 ∷ 1 ∷ [], rank_test-true zero_lengths [] (3 ∷ 2 ∷ 1 ∷ 4 ∷ []) refl, refl);
   front = front_test-true zero_lengths [] before_fifth refl;
-  children =
-      let none = no_children zero_lengths before_fifth in
-      let child : Child (List Entry) = Placed (before_fifth ++ fifth ∷ []) in
-      ([], none 3 refl (none 2 refl (none 1 refl (none 0 refl refl))), (child ∷ [], refl, inl (fifth-child.follows.eligible, ([], child, refl, refl, (3, refl, fifth-child)))));
+  children = ((3, refl, fifth-child), tt);
 }
 
 pub short_facts : ShortOrCheap

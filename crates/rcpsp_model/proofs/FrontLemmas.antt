@@ -15,7 +15,8 @@ use Rattle.rcpsp_model.specs.Tree.{has_job, last_start, Fits, CanStart, Follows,
 use Rattle.rcpsp_model.specs.Bounds.{ready}
 use Rattle.rcpsp_model.proofs.Lists.{In, total, sum_by-total, In-All, All-from_In, total-le, total-zero, In-filter, filter-In}
 use Rattle.rcpsp_model.proofs.Entries.{DistinctJobs, part, part-more, entry_at, entries-distinct}
-use Rattle.rcpsp_model.proofs.Usage.{load, usage-total, load-active, load-before, load-after, finish-le-end, end-le, usage-past_end, whole_law, cap_law, calm_law}
+use Rattle.rcpsp_model.proofs.Usage.{load, usage-total, load-active, load-before, load-after, finish-le-end, end-le, usage-past_end}
+use Rattle.rcpsp_model.proofs.CalendarLemmas.{whole_law, cap_law, calm_law}
 use Rattle.rcpsp_model.proofs.CompletesLemmas.{front-distinct}
 
 -- A rule that keeps a fact from entry to entry keeps it to the end.
@@ -158,7 +159,7 @@ front-end_le P F w f = end-in_turn P w [] F f (omega arith)
 pub front-end : (P : Project) (F : List Entry) → IsWithinLimits P → IsFront P F → end_of P F ≤ 1290000
 unfolding job_count
 front-end P F w f =
-    let h = front-end_le P F w f in let len = length-front P F f in let few = w.few_jobs in let soon = calm_law P in omega arith
+    let h = front-end_le P F w f in let len = length-front P F f in let few = w.few_jobs in let soon = calm_law P w in omega arith
 
 pub front-of : (P : Project) (F : List Entry) → IsWithinLimits P → IsFront P F → AreOf P F
 front-of P F w f = All-from_In (IsOf P) F (λ e i.

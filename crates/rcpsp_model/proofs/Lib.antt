@@ -3,6 +3,7 @@ pub mod Numbers
 pub mod Entries
 pub mod Changed
 pub mod Usage
+pub mod CalendarLemmas
 pub mod ModeLemmas
 pub mod CompletesLemmas
 pub mod NextLemmas
@@ -18,6 +19,7 @@ pub mod Merged
 pub mod DominanceLemmas
 pub mod PlanLemmas
 pub mod TreeLemmas
+pub mod ChoiceLemmas
 pub mod ChildLemmas
 pub mod LogLemmas
 pub mod TailLemmas
@@ -26,4 +28,8 @@ pub mod OnePlanLemmas
 pub mod SerialLemmas
 pub mod Tests
 pub mod TreeTests
+pub mod ChildTests
+pub mod BoundTests
+pub mod BoundsExist
+pub mod DecideLemmas
 pub mod ExampleLemmas

@@ -5,7 +5,7 @@ use Rattle.rcpsp_model.specs.declared.parts.Entry.{Entry}
 use Rattle.rcpsp_model.specs.Project.{Project, job_count, IsAcyclic}
 use Rattle.rcpsp_model.specs.Schedule.{end_of, entries}
 use Rattle.rcpsp_model.specs.Tree.{has_job, IsFront}
-use Rattle.rcpsp_model.specs.Log.{IsClosedAt, leaf, tail, work, lower, cutset, IsClosedLog, EndsLate}
+use Rattle.rcpsp_model.specs.Log.{IsClosedAt, by_leaf, by_tail, by_work, by_lower, by_cutset, IsClosedLog, EndsLate}
 use Rattle.rcpsp_model.specs.Laws.{ClosedLogLaw, ClosedRootLaw, NoneLaw}
 use Rattle.rcpsp_model.proofs.Lists.{total-same}
 use Rattle.rcpsp_model.proofs.Usage.{finish-le-end, end-le}
@@ -37,11 +37,11 @@ module _ (P : Project) (a : IsAcyclic P) (d : ℕ) (Expanded Closed : List Entry
 
   -- a closed line, where all expanded lines of its length end late
   late-closed : (F : List Entry) → IsFront P F → ((A : List Entry) → Expanded A → length A ≡ length F → EndsLate P d A) → IsClosedAt P d Expanded F → EndsLate P d F
-  late-closed F f level (leaf whole far) s c = let all = end-le P F (end_of P (entries s)) (λ x i. finish-le-end P (entries s) x (kept-In P F s c x i)) in omega arith
-  late-closed F f level (tail t is far) s c = let bound = tail_law P F s t a c is in omega arith
-  late-closed F f level (work k w is far) s c = let bound = work_law P F s k w f c is in omega arith
-  late-closed F f level (lower b is far) s c = let bound = lower_law P F s b a f c is in omega arith
-  late-closed F f level (cutset A l dominates) s c =
+  late-closed F f level (by_leaf whole far) s c = let all = end-le P F (end_of P (entries s)) (λ x i. finish-le-end P (entries s) x (kept-In P F s c x i)) in omega arith
+  late-closed F f level (by_tail t is far) s c = let bound = tail_law P F s t a c is in omega arith
+  late-closed F f level (by_work k w is far) s c = let bound = work_law P F s k w f c is in omega arith
+  late-closed F f level (by_lower b is far) s c = let bound = lower_law P F s b a f c is in omega arith
+  late-closed F f level (by_cutset A l dominates) s c =
       let fa = log.fronts A (inl l) in
       let r = dominance_law P A F s a fa f dominates c in
       let late = level A l (same-length P A F fa f dominates.jobs) r.better r.completes in

@@ -1,6 +1,7 @@
 -- A project is known by its facts.
 use Rattle.std.proofs.Common.{◌≡◌, ℕ, ◌+◌, ◌-◌, ◌<◌, ◌≤◌, inl, inr, arith, refl, sym, ap, subst, ◌∙◌, List, [], ◌∷◌, length, get_or}
 use Rattle.std.proofs.lemmas.List.{ext_get_or}
+use Rattle.rcpsp_model.specs.declared.parts.CalRow.{CalRow}
 use Rattle.rcpsp_model.specs.declared.parts.Mode.{Mode}
 use Rattle.rcpsp_model.specs.Project.{Activity, Project, no_mode, no_activity, job_count, modes_of, successors_of, mode_of, duration, request, need, capacity, budget, IsJob, IsMode, IsAscending, IsProject}
 use Rattle.rcpsp_model.specs.Laws.{SameFacts, SameFactsLaw}
@@ -52,12 +53,13 @@ activity_with m s = record { modes = m; successors = s }
 same-activity : (a b : Activity) → a.modes ≡ b.modes → a.successors ≡ b.successors → a ≡ b
 same-activity a b m s = ap (λ (x : List Mode). activity_with x a.successors) m ∙ ap (λ (x : List ℕ). activity_with b.modes x) s
 
-abbrev project_with : List Activity → List ℕ → List ℕ → Project
-project_with a c b = record { activities = a; capacities = c; budgets = b }
+abbrev project_with : List Activity → List ℕ → List ℕ → List CalRow → Project
+project_with a c b r = record { activities = a; capacities = c; budgets = b; calendar = r }
 
-same-project : (P Q : Project) → P.activities ≡ Q.activities → P.capacities ≡ Q.capacities → P.budgets ≡ Q.budgets → P ≡ Q
-same-project P Q a c b =
-    ap (λ (x : List Activity). project_with x P.capacities P.budgets) a ∙ ap (λ (x : List ℕ). project_with Q.activities x P.budgets) c ∙ ap (λ (x : List ℕ). project_with Q.activities Q.capacities x) b
+same-project : (P Q : Project) → P.activities ≡ Q.activities → P.capacities ≡ Q.capacities → P.budgets ≡ Q.budgets → P.calendar ≡ Q.calendar → P ≡ Q
+same-project P Q a c b r =
+    ap (λ (x : List Activity). project_with x P.capacities P.budgets P.calendar) a ∙ ap (λ (x : List ℕ). project_with Q.activities x P.budgets P.calendar) c
+    ∙ ap (λ (x : List ℕ). project_with Q.activities Q.capacities x P.calendar) b ∙ ap (λ (x : List CalRow). project_with Q.activities Q.capacities Q.budgets x) r
 
 same-mode_of : (P Q : Project) → IsProject P → IsProject Q → SameFacts P Q → (j m : ℕ) → IsJob P j → IsJob Q j → IsMode P j m → IsMode Q j m → mode_of P j m ≡ mode_of Q j m
 unfolding duration request need
@@ -93,3 +95,4 @@ same_facts_law P Q p q f =
     (same-modes_of P Q p q f j (low, high) (low, omega arith)) (same-successors_of P Q p q f j (low, high) (low, omega arith))))
     (same-items 0 P.capacities Q.capacities f.renewables (λ k low high. f.capacities k (low, high)))
     (same-items 0 P.budgets Q.budgets f.nonrenewables (λ l low high. f.budgets l (low, high)))
+    f.calendar

@@ -1,11 +1,12 @@
 -- Tests that compute the definitions on a project that is given, and what they show.
 use Rattle.std.proofs.Common.{◌≡◌, ℕ, zero, suc, ◌+◌, ◌-◌, ◌<◌, ◌≤◌, inl, inr, arith, refl, sym, subst, ◌∙◌, List, [], ◌∷◌, length, Bool, true, false, eqb, leb, ltb, ◌&&◌, ◌||◌, not}
-use Rattle.std.specs.Prelude.{All, sum_by}
-use Rattle.std.proofs.lemmas.Bool.{and_parts, and_from, leb-true, ltb-true, eqb-true, cases_eq, false≢true}
+use Rattle.std.specs.Prelude.{All, slice_index, sum_by}
+use Rattle.std.proofs.lemmas.Bool.{and_parts, and_from, leb-true, ltb-true, eqb-true, cases_eq, or_cases, false≢true}
+use Rattle.rcpsp_model.specs.declared.parts.CalRow.{CalRow}
 use Rattle.rcpsp_model.specs.declared.parts.Entry.{Entry}
 use Rattle.rcpsp_model.specs.declared.parts.Mode.{Mode}
 use Rattle.rcpsp_model.specs.declared.parts.Placing.{Placing}
-use Rattle.rcpsp_model.specs.Project.{Activity, Project, job_count, modes_of, successors_of, duration, request, budget, renewables, nonrenewables, is_before, Before, IsMode, IsAscending, IsModeWithinLimits, IsActivityWithinLimits, IsWithinLimits, IsAcyclic, IsProject}
+use Rattle.rcpsp_model.specs.Project.{Activity, Project, job_count, modes_of, successors_of, duration, request, budget, renewables, nonrenewables, is_before, Before, IsMode, IsAscending, IsModeWithinLimits, IsActivityWithinLimits, MayPrecede, IsInOrder, IsRowWithinLimits, IsWithinLimits, IsAcyclic, IsProject}
 use Rattle.rcpsp_model.specs.Schedule.{finish, usage, used, end_of, entries, cap, IsFeasible}
 use Rattle.rcpsp_model.specs.Tree.{has_job, Fits}
 use Rattle.rcpsp_model.proofs.Lists.{In, All-from_In, In-from_Contains}
@@ -115,10 +116,50 @@ activity_test-true jobs r n x h =
       successors = All-every (λ s. (1 ≤ s) × (s ≤ jobs)) (among jobs) x.successors (among-true jobs) d.1;
     }
 
+abbrev row_test : List ℕ → CalRow → Bool
+row_test capacities row =
+    among (length capacities) row.resource && (ltb row.begin row.until && (leb row.until 10000 && leb row.capacity (slice_index capacities (row.resource - 1))))
+
+row_test-true : (capacities : List ℕ) (row : CalRow) → row_test capacities row ≡ true → IsRowWithinLimits capacities row
+row_test-true capacities row h =
+    let a = and_parts (among (length capacities) row.resource) _ h in
+    let b = and_parts (ltb row.begin row.until) _ a.1 in
+    let c = and_parts (leb row.until 10000) _ b.1 in
+    let resource = among-true (length capacities) row.resource a.0 in
+    record {
+      some_resource = resource.0;
+      few_resources = resource.1;
+      some_period = ltb-true row.begin row.until b.0;
+      until = leb-true row.until 10000 c.0;
+      capacity = leb-true row.capacity _ c.1;
+    }
+
+abbrev precede_test : CalRow → CalRow → Bool
+precede_test a b = ltb a.resource b.resource || (eqb a.resource b.resource && leb a.until b.begin)
+
+precede_test-true : (a b : CalRow) → precede_test a b ≡ true → MayPrecede a b
+precede_test-true a b h = elim (or_cases (ltb a.resource b.resource) _ h) [
+  | inl low ↦ inl (ltb-true a.resource b.resource low)
+  | inr same ↦ let p = and_parts (eqb a.resource b.resource) _ same in inr (eqb-true a.resource b.resource p.0, leb-true a.until b.begin p.1)
+]
+
+abbrev order_test : List CalRow → Bool
+order_test [] = true
+order_test (a ∷ []) = true
+order_test (a ∷ b ∷ rows) = precede_test a b && order_test (b ∷ rows)
+
+order_test-true : (rows : List CalRow) → order_test rows ≡ true → IsInOrder rows
+order_test-true [] h = tt
+order_test-true (a ∷ []) h = tt
+order_test-true (a ∷ b ∷ rows) h = let p = and_parts (precede_test a b) (order_test (b ∷ rows)) h in (precede_test-true a b p.0, order_test-true (b ∷ rows) p.1)
+
+abbrev calendar_test : Project → Bool
+calendar_test P = leb (length P.calendar) 256 && (every (row_test P.capacities) P.calendar && order_test P.calendar)
+
 abbrev pub limits_test : Project → Bool
 limits_test P =
     among 128 (job_count P) && (leb (sum_by (λ a. length a.modes) P.activities) 512 && (leb (renewables P) 16 && (leb (nonrenewables P) 16 &&
-    (every (activity_test (length P.activities) (length P.capacities) (length P.budgets)) P.activities && (every is_small P.capacities && every is_small P.budgets)))))
+    (every (activity_test (length P.activities) (length P.capacities) (length P.budgets)) P.activities && (every is_small P.capacities && (every is_small P.budgets && calendar_test P))))))
 
 limits_test-true : (P : Project) → limits_test P ≡ true → IsWithinLimits P
 limits_test-true P h =
@@ -128,7 +169,10 @@ limits_test-true P h =
     let d = and_parts (leb (nonrenewables P) 16) _ c.1 in
     let Fine : Activity → Bool = activity_test (length P.activities) (length P.capacities) (length P.budgets) in
     let e = and_parts (every Fine P.activities) _ d.1 in
-    let f = and_parts (every is_small P.capacities) (every is_small P.budgets) e.1 in
+    let f = and_parts (every is_small P.capacities) _ e.1 in
+    let g = and_parts (every is_small P.budgets) (calendar_test P) f.1 in
+    let rows = and_parts (leb (length P.calendar) 256) _ g.1 in
+    let order = and_parts (every (row_test P.capacities) P.calendar) _ rows.1 in
     let jobs = among-true 128 (job_count P) a.0 in
     record {
       some_job = jobs.0;
@@ -138,7 +182,10 @@ limits_test-true P h =
       few_nonrenewables = leb-true (nonrenewables P) 16 d.0;
       activities = All-every (IsActivityWithinLimits (length P.activities) (length P.capacities) (length P.budgets)) Fine P.activities (activity_test-true (length P.activities) (length P.capacities) (length P.budgets)) e.0;
       capacities = All-every (λ c. c ≤ 1000000) is_small P.capacities (λ x t. leb-true x 1000000 t) f.0;
-      budgets = All-every (λ c. c ≤ 1000000) is_small P.budgets (λ x t. leb-true x 1000000 t) f.1;
+      budgets = All-every (λ c. c ≤ 1000000) is_small P.budgets (λ x t. leb-true x 1000000 t) g.0;
+      few_rows = leb-true (length P.calendar) 256 rows.0;
+      rows = All-every (IsRowWithinLimits P.capacities) (row_test P.capacities) P.calendar (row_test-true P.capacities) order.0;
+      calendar = order_test-true P.calendar order.1;
     }
 
 -- No cycle, by numbers that rise.

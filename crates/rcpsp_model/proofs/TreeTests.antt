@@ -7,7 +7,7 @@ use Rattle.rcpsp_model.specs.Project.{Project, job_count, modes_of, successors_o
 use Rattle.rcpsp_model.specs.Schedule.{finish, used, end_of}
 use Rattle.rcpsp_model.specs.Chain.{least_duration, IsChain}
 use Rattle.rcpsp_model.specs.Tree.{has_job, last_start, Follows, InTurn}
-use Rattle.rcpsp_model.specs.Bounds.{ready, TailValue, front, chain, IsTailBound}
+use Rattle.rcpsp_model.specs.Bounds.{ready, TailValue, of_front, of_chain, IsTailBound}
 use Rattle.rcpsp_model.specs.Rank.{is_among, HasPredecessors, IsLowestFree}
 use Rattle.rcpsp_model.proofs.Lists.{total, sum_by-total}
 use Rattle.rcpsp_model.proofs.Successors.{any-In, before-any, before-job}
@@ -77,7 +77,7 @@ tails-pair P tail h j k b =
     (all_to-true (λ i. leb (least_duration P i) (tail i) && every (λ k. leb (least_duration P i + tail k) (tail i)) (successors_of P i)) (job_count P) h j job.0 job.1)).1
     k (any-In (successors_of P j) k (sym (before-any P j k job.0) ∙ b)))
 
-chain-le : (P : Project) (tail : ℕ → ℕ) → IsAcyclic P → tails_test P tail ≡ true → (j : ℕ) (js : List ℕ) → IsJob P j → IsChain P (j ∷ js) → total (least_duration P) (j ∷ js) ≤ tail j
+pub chain-le : (P : Project) (tail : ℕ → ℕ) → IsAcyclic P → tails_test P tail ≡ true → (j : ℕ) (js : List ℕ) → IsJob P j → IsChain P (j ∷ js) → total (least_duration P) (j ∷ js) ≤ tail j
 chain-le P tail a h j [] job c = let own = tails-job P tail h j job in omega arith
 chain-le P tail a h j (k ∷ js) job c =
     let ih = chain-le P tail a h k js (a.jobs j k c.0).1 c.1 in let pair = tails-pair P tail h j k c.0 in omega arith
@@ -86,11 +86,11 @@ abbrev pub ready_test : Project → List Entry → (ℕ → ℕ) → ℕ → Boo
 ready_test P F tail t = all_to (λ j. has_job F j || leb (ready P F j + tail j) t) (job_count P)
 
 pub tail_bound-from_tests : (P : Project) (F : List Entry) (tail : ℕ → ℕ) → IsAcyclic P → tails_test P tail ≡ true → ready_test P F tail (end_of P F) ≡ true → IsTailBound P F (end_of P F)
-tail_bound-from_tests P F tail a h r = record { attained = front; greatest = at_most }
+tail_bound-from_tests P F tail a h r = record { attained = of_front; greatest = at_most }
   where
     at_most : (u : ℕ) → TailValue P F u → u ≤ end_of P F
-    at_most _ front = omega arith
-    at_most _ (chain j js job is_chain free) =
+    at_most _ of_front = omega arith
+    at_most _ (of_chain j js job is_chain free) =
         let sum = sum_by-total (least_duration P) (j ∷ js) in
         let along = chain-le P tail a h j js job is_chain in
         elim (or_cases (has_job F j) (leb (ready P F j + tail j) (end_of P F)) (all_to-true (λ i. has_job F i || leb (ready P F i + tail i) (end_of P F)) (job_count P) r j job.0 job.1)) [

@@ -3,9 +3,8 @@ use Rattle.std.proofs.Common.{◌≡◌, ℕ, ◌+◌, ◌<◌, ◌≤◌, inl, 
 use Rattle.std.proofs.lemmas.Bool.{and_from, and_left, and_right, le-leb, lt-leb, lt-ltb, le-ltb}
 use Rattle.rcpsp_model.specs.declared.parts.Entry.{Entry}
 use Rattle.rcpsp_model.specs.Project.{Project, duration, request, IsRenewable, is_before, Before}
-use Rattle.rcpsp_model.specs.Schedule.{cap, calm, finish, is_active, usage, end_of}
+use Rattle.rcpsp_model.specs.Schedule.{cap, finish, is_active, usage, end_of}
 use Rattle.rcpsp_model.specs.Tree.{Fits, CanStart, last_start}
-use Rattle.rcpsp_model.specs.Laws.{CapLaw, WholeLaw, CalmLaw}
 use Rattle.rcpsp_model.proofs.Lists.{In, total, total-zero, sum_by-filter, In-All, All-from_In}
 use Rattle.rcpsp_model.proofs.Numbers.{Decided, le_decided, lt_decided, below_decided, both_decided, implies_decided, true_decided}
 
@@ -65,19 +64,6 @@ can_start_decided P F j m t =
       | inl h ↦ inl (record { after_last = h.0; after_preds = All-from_In (λ (x : Entry). Before P x.job j → finish P x ≤ t) F h.1.0; fits = h.1.1 })
       | inr fails ↦ inr (λ c. fails (c.after_last, (In-All (λ (x : Entry). Before P x.job j → finish P x ≤ t) F c.after_preds, c.fits)))
     ]
-
--- a capacity is at most the whole one, and whole from the calm on
-pub cap_law : CapLaw
-unfolding cap
-cap_law P k t = omega arith
-
-pub whole_law : WholeLaw
-unfolding cap
-whole_law P k t h = refl
-
-pub calm_law : CalmLaw
-unfolding calm
-calm_law P = omega arith
 
 -- from the end on nothing is used
 pub usage-past_end : (P : Project) (es : List Entry) (k t : ℕ) → end_of P es ≤ t → usage P es k t ≡ 0

@@ -15,7 +15,8 @@ use Rattle.rcpsp_model.specs.Bounds.{periods_left, rest_work, supply, HoldsWork}
 use Rattle.rcpsp_model.specs.Laws.{WorkLaw, QuotientLaw, quotient_up}
 use Rattle.rcpsp_model.proofs.Lists.{In, In-push, In-All, total, total-le, sum_by-total}
 use Rattle.rcpsp_model.proofs.Entries.{total-others, entries-distinct}
-use Rattle.rcpsp_model.proofs.Usage.{load, usage-total, load-active, finish-le-end, end-le, whole_law}
+use Rattle.rcpsp_model.proofs.Usage.{load, usage-total, load-active, finish-le-end, end-le}
+use Rattle.rcpsp_model.proofs.CalendarLemmas.{whole_law}
 use Rattle.rcpsp_model.proofs.ModeLemmas.{least_work-le, sum_by-unplaced}
 use Rattle.rcpsp_model.proofs.CompletesLemmas.{kept-In, front-distinct}
 use Rattle.rcpsp_model.proofs.FrontLemmas.{last-le-end, in_turn}

@@ -15,8 +15,8 @@ ready P F j = max (last_start F) (end_of P (filter (λ e. is_before P e.job j) F
 
 -- the front's end, and for each chain of unplaced jobs when its first job is ready, and then its least durations
 pub data TailValue (P : Project) (F : List Entry) : ℕ → Type 0 where
-  front : TailValue P F (end_of P F)
-  chain : (j : ℕ) (js : List ℕ) → IsJob P j → IsChain P (j ∷ js) → All (λ i. has_job F i ≡ false) (j ∷ js) → TailValue P F (ready P F j + sum_by (least_duration P) (j ∷ js))
+  of_front : TailValue P F (end_of P F)
+  of_chain : (j : ℕ) (js : List ℕ) → IsJob P j → IsChain P (j ∷ js) → All (λ i. has_job F i ≡ false) (j ∷ js) → TailValue P F (ready P F j + sum_by (least_duration P) (j ∷ js))
 
 -- t is the tail bound of F
 abbrev pub IsTailBound : Project → List Entry → ℕ → Type 0
@@ -52,8 +52,8 @@ pub record IsWorkBound (P : Project) (F : List Entry) (k w : ℕ) : Type 0 where
 
 -- the values of the tail bound and of all work bounds
 pub data LowerValue (P : Project) (F : List Entry) : ℕ → Type 0 where
-  tail : (t : ℕ) → IsTailBound P F t → LowerValue P F t
-  work : (k w : ℕ) → IsWorkBound P F k w → LowerValue P F w
+  of_tail : (t : ℕ) → IsTailBound P F t → LowerValue P F t
+  of_work : (k w : ℕ) → IsWorkBound P F k w → LowerValue P F w
 
 -- b is the lower bound of F: the greatest of these
 abbrev pub IsLowerBound : Project → List Entry → ℕ → Type 0

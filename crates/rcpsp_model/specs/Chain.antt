@@ -21,6 +21,15 @@ IsChain P [] = Unit {0}
 IsChain P (j ∷ []) = Unit {0}
 IsChain P (i ∷ j ∷ js) = Before P i j × IsChain P (j ∷ js)
 
+-- a chain of pairs leads from one job to another
+pub data Leads (P : Project) : ℕ → ℕ → Type 0 where
+  leads_directly : {i j : ℕ} → Before P i j → Leads P i j
+  leads_on : {i j k : ℕ} → Before P i j → Leads P j k → Leads P i k
+
+-- the job lies on a cycle: a chain leads from it back to it
+abbrev pub IsOnCycle : Project → ℕ → Type 0
+IsOnCycle P j = Leads P j j
+
 -- a sum of least durations along a chain that begins with j
 abbrev pub ChainLength : Project → ℕ → ℕ → Type 0
 ChainLength P j n = (js : List ℕ) × IsChain P (j ∷ js) × (n ≡ sum_by (least_duration P) (j ∷ js))

@@ -1,4 +1,4 @@
--- Four small projects, at which the definitions can be seen at work. What is said of them here is proved.
+-- Five small projects, at which the definitions can be seen at work. What is said of them here is proved.
 use Rattle.std.specs.Prelude.{ℕ, List, [], ◌∷◌, ◌++◌}
 use Rattle.rcpsp_model.specs.declared.parts.Child.TheVariants.{Placed}
 use Rattle.rcpsp_model.specs.declared.parts.Entry.{Entry}
@@ -35,6 +35,7 @@ two_in_turn = record {
       ∷ activity (using 0 0 ∷ []) [] ∷ [];
   capacities = 3 ∷ [];
   budgets = [];
+  calendar = [];
 }
 
 pub record TwoInTurn : Type 0 where
@@ -48,6 +49,19 @@ pub record TwoInTurn : Type 0 where
   pub tail_bound : IsTailBound two_in_turn (entry_at 1 1 0 ∷ entry_at 2 1 0 ∷ []) 3
   pub work_bound : IsWorkBound two_in_turn [] 1 4
 
+-- The same jobs, where there is only one unit of the resource in periods 0 and 1.
+abbrev pub after_a_break : Project
+after_a_break = record two_in_turn { calendar = record { resource = 1; begin = 0; until = 2; capacity = 1 } ∷ [] }
+
+pub record AfterABreak : Type 0 where
+  pub project : IsProject after_a_break
+  -- job 2, which asks for two units, waits until the break is over
+  pub feasible : IsFeasible after_a_break (at 1 0 ∷ at 1 2 ∷ at 1 5 ∷ at 1 7 ∷ [])
+  pub in_the_break : IsFeasible after_a_break (at 1 0 ∷ at 1 1 ∷ at 1 4 ∷ at 1 6 ∷ []) → ⊥
+  pub front : IsFront after_a_break (entry_at 1 1 0 ∷ entry_at 2 1 2 ∷ [])
+  -- the first four periods supply 8 of the 10 units of work that are left, the first five 11
+  pub work_bound : IsWorkBound after_a_break [] 1 5
+
 -- Jobs 3, 2 and 1, in this order, take no time, and come before job 4. Job 5 stands alone.
 abbrev pub zero_lengths : Project
 zero_lengths = record {
@@ -59,6 +73,7 @@ zero_lengths = record {
       ∷ activity (using 2 2 ∷ []) [] ∷ [];
   capacities = 3 ∷ [];
   budgets = [];
+  calendar = [];
 }
 
 abbrev pub before_fifth : List Entry
@@ -83,6 +98,7 @@ short_or_cheap = record {
       ∷ activity (needing 0 0 0 ∷ []) [] ∷ [];
   capacities = 2 ∷ [];
   budgets = 4 ∷ [];
+  calendar = [];
 }
 
 pub record ShortOrCheap : Type 0 where
@@ -102,6 +118,7 @@ needs_differ = record {
       ∷ activity (needing 0 0 0 ∷ []) [] ∷ [];
   capacities = 3 ∷ [];
   budgets = 10 ∷ [];
+  calendar = [];
 }
 
 -- fronts with the same jobs at the same starts, which have used 3 and 1 of the budget

@@ -1,13 +1,14 @@
 -- The laws, which hold of all projects, schedules and fronts. Each is the contract of a function, and so is proved.
-use Rattle.std.specs.Prelude.{◌≡◌, Option, ℕ, ◌+◌, ◌-◌, ◌*◌, ◌/◌, ◌<◌, ◌≤◌, ◌↔◌, ◌⊎◌, min, Some, List, [], ◌∷◌, ◌++◌, length, Contains}
+use Rattle.std.specs.Prelude.{◌≡◌, Option, ℕ, ◌+◌, ◌-◌, ◌*◌, ◌/◌, ◌<◌, ◌≤◌, ◌↔◌, ◌⊎◌, min, true, Some, List, [], ◌∷◌, ◌++◌, length, Contains}
+use Rattle.rcpsp_model.specs.declared.parts.CalRow.{CalRow}
 use Rattle.rcpsp_model.specs.declared.parts.Child.TheVariants.{Placed}
 use Rattle.rcpsp_model.specs.declared.parts.Entry.{Entry}
 use Rattle.rcpsp_model.specs.declared.parts.Placing.{Placing}
-use Rattle.rcpsp_model.specs.Project.{Project, job_count, duration, request, need, capacity, budget, renewables, nonrenewables, modes_of, is_before, IsJob, IsMode, IsRenewable, IsNonrenewable, IsAcyclic, IsProject}
+use Rattle.rcpsp_model.specs.Project.{Project, job_count, duration, request, need, capacity, budget, renewables, nonrenewables, modes_of, is_before, IsJob, IsMode, IsRenewable, IsNonrenewable, IsWithinLimits, IsAcyclic, IsProject}
 use Rattle.rcpsp_model.specs.Schedule.{end_of, entries, cap, calm, IsFeasible, KeepsBudgets, Agrees}
 use Rattle.rcpsp_model.specs.Chain.{IsTail}
 use Rattle.rcpsp_model.specs.Modes.{IsExecutable}
-use Rattle.rcpsp_model.specs.Tree.{last_start, IsFront, IsLeaf, InTurn, Completes, HasGap, IsPlacedChild, Children, AreChildren}
+use Rattle.rcpsp_model.specs.Tree.{last_start, is_eligible, IsEligible, IsFront, IsLeaf, InTurn, Completes, HasGap, IsPlacedChild, Children, AreChildren}
 use Rattle.rcpsp_model.specs.Bounds.{IsTailBound, IsWorkBound, IsLowerBound, rest_work}
 use Rattle.rcpsp_model.specs.Dominance.{Dominates}
 use Rattle.rcpsp_model.specs.Rank.{IsRank}
@@ -15,7 +16,17 @@ use Rattle.rcpsp_model.specs.Plan.{IsShortestMode, IsCheapestMode, IsPlacedInTur
 use Rattle.rcpsp_model.specs.Claim.{NoneIsFeasible, NoneEndsBefore}
 use Rattle.rcpsp_model.specs.Log.{IsClosedLog, EndsLate}
 
--- What there is of a renewable resource in a period. The other laws know no more of `cap` and `calm` than this.
+-- What there is of a renewable resource in a period.
+
+-- in the periods of a row there is what the row says
+abbrev pub RowLaw : Type 0
+RowLaw = (P : Project) (row : CalRow) (t : ℕ) → IsWithinLimits P → Contains P.calendar row → row.begin ≤ t → t < row.until → cap P row.resource t ≡ row.capacity
+
+-- in a period that no row of the resource has, there is the capacity
+abbrev pub OtherPeriodLaw : Type 0
+OtherPeriodLaw = (P : Project) (k t : ℕ) → ((row : CalRow) → Contains P.calendar row → row.resource ≡ k → row.begin ≤ t → t < row.until → ⊥) → cap P k t ≡ capacity P k
+
+-- The laws below know no more of `cap` and `calm` than these three.
 
 -- at most the capacity
 abbrev pub CapLaw : Type 0
@@ -26,11 +37,11 @@ abbrev pub WholeLaw : Type 0
 WholeLaw = (P : Project) (k t : ℕ) → calm P ≤ t → cap P k t ≡ capacity P k
 
 abbrev pub CalmLaw : Type 0
-CalmLaw = (P : Project) → calm P ≤ 10000
+CalmLaw = (P : Project) → IsWithinLimits P → calm P ≤ 10000
 
 -- A project is known by its facts.
 
--- the same number of jobs, modes and resources, and the same number for each of them
+-- the same number of jobs, modes and resources, the same number for each of them, and the same rows of the calendar
 pub record SameFacts (P Q : Project) : Type 0 where
   pub jobs : job_count P ≡ job_count Q
   pub renewables : renewables P ≡ renewables Q
@@ -42,6 +53,7 @@ pub record SameFacts (P Q : Project) : Type 0 where
   pub before : (i j : ℕ) → is_before P i j ≡ is_before Q i j
   pub capacities : (k : ℕ) → IsRenewable P k → capacity P k ≡ capacity Q k
   pub budgets : (l : ℕ) → IsNonrenewable P l → budget P l ≡ budget Q l
+  pub calendar : P.calendar ≡ Q.calendar
 
 -- two projects with the same facts are equal
 abbrev pub SameFactsLaw : Type 0
@@ -90,6 +102,10 @@ pub record Exchange (P : Project) (F : List Entry) (s : List Placing) : Type 0 w
 -- where a front isn't a leaf, each schedule that completes it can be exchanged for one that completes a placed child
 abbrev pub ExchangeLaw : Type 0
 ExchangeLaw = (P : Project) (F : List Entry) (s : List Placing) → IsAcyclic P → IsFront P F → (IsLeaf P F → ⊥) → Completes P F s → Exchange P F s
+
+-- a job is eligible exactly where the test says so
+abbrev pub EligibleLaw : Type 0
+EligibleLaw = (P : Project) (F : List Entry) (j : ℕ) → IsJob P j → (is_eligible P F j ≡ true) ↔ IsEligible P F j
 
 -- a list of a front's children, and no other list
 pub record OneList (P : Project) (F : List Entry) : Type 0 where
@@ -161,6 +177,24 @@ LowerLaw = (P : Project) (F : List Entry) (s : List Placing) (b : ℕ) → IsAcy
 -- where a front has a budget gap, nothing completes it
 abbrev pub GapLaw : Type 0
 GapLaw = (P : Project) (F : List Entry) (s : List Placing) (l : ℕ) → IsFront P F → HasGap P F l → Completes P F s → ⊥
+
+-- The bounds of a front are known by it.
+
+-- a number that has the property, and no other one
+pub record OneNumber (Q : ℕ → Type 0) : Type 0 where
+  pub number : ℕ
+  pub has : Q number
+  pub only : (n : ℕ) → Q n → n ≡ number
+
+-- a front has one tail bound, one work bound of each resource that has a capacity, and one lower bound
+abbrev pub OneTailBoundLaw : Type 0
+OneTailBoundLaw = (P : Project) (F : List Entry) → IsAcyclic P → IsFront P F → OneNumber (IsTailBound P F)
+
+abbrev pub OneWorkBoundLaw : Type 0
+OneWorkBoundLaw = (P : Project) (F : List Entry) (k : ℕ) → IsRenewable P k → 0 < capacity P k → OneNumber (IsWorkBound P F k)
+
+abbrev pub OneLowerBoundLaw : Type 0
+OneLowerBoundLaw = (P : Project) (F : List Entry) → IsAcyclic P → IsFront P F → OneNumber (IsLowerBound P F)
 
 -- Dominance.
 

@@ -11,11 +11,11 @@ use Rattle.rcpsp_model.specs.Dominance.{Dominates}
 -- why a line that isn't expanded is closed at d: its front is a leaf that ends at d or later, or one of its bounds is d
 -- or later, or the front of an expanded line dominates it
 pub data IsClosedAt (P : Project) (d : ℕ) (Expanded : List Entry → Type 0) (F : List Entry) : Type 0 where
-  leaf : IsLeaf P F → d ≤ end_of P F → IsClosedAt P d Expanded F
-  tail : (t : ℕ) → IsTailBound P F t → d ≤ t → IsClosedAt P d Expanded F
-  work : (k w : ℕ) → IsWorkBound P F k w → d ≤ w → IsClosedAt P d Expanded F
-  lower : (b : ℕ) → IsLowerBound P F b → d ≤ b → IsClosedAt P d Expanded F
-  cutset : (A : List Entry) → Expanded A → Dominates P A F → IsClosedAt P d Expanded F
+  by_leaf : IsLeaf P F → d ≤ end_of P F → IsClosedAt P d Expanded F
+  by_tail : (t : ℕ) → IsTailBound P F t → d ≤ t → IsClosedAt P d Expanded F
+  by_work : (k w : ℕ) → IsWorkBound P F k w → d ≤ w → IsClosedAt P d Expanded F
+  by_lower : (b : ℕ) → IsLowerBound P F b → d ≤ b → IsClosedAt P d Expanded F
+  by_cutset : (A : List Entry) → Expanded A → Dominates P A F → IsClosedAt P d Expanded F
 
 -- the lines of a log, by their fronts: each expanded line has all its placed children as lines, and each other line is
 -- closed at d

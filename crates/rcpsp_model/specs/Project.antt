@@ -1,8 +1,9 @@
 -- Projects: jobs with their modes and their order, and what there is of each resource (the MRCPSP of Talbot 1982, as in
--- the library PSPLIB of Kolisch and Sprecher 1997; the RCPSP is the case of one mode per job). Jobs, modes and resources
--- count from 1.
-use Rattle.std.specs.Prelude.{◌≡◌, ℕ, zero, suc, ◌+◌, ◌-◌, ◌<◌, ◌≤◌, ◌==◌, ◌&&◌, nat_le, Bool, true, List, [], ◌∷◌, length, slice_index, sum_by, All}
+-- the library PSPLIB of Kolisch and Sprecher 1997; the RCPSP is the case of one mode per job), with a calendar of periods
+-- in which there is less. Jobs, modes and resources count from 1, periods from 0.
+use Rattle.std.specs.Prelude.{◌≡◌, ℕ, zero, suc, ◌+◌, ◌-◌, ◌<◌, ◌≤◌, ◌⊎◌, ◌==◌, ◌&&◌, nat_le, Bool, true, List, [], ◌∷◌, length, slice_index, sum_by, All}
 use Rattle.std.specs.List.{list_any, slice_index_or}
+use Rattle.rcpsp_model.specs.declared.parts.CalRow.{CalRow}
 use Rattle.rcpsp_model.specs.declared.parts.Mode.{Mode}
 
 -- a job (activity): its modes, and its direct successors in strictly ascending order
@@ -10,11 +11,13 @@ pub record Activity : Type 0 where
   pub modes : List Mode
   pub successors : List ℕ
 
--- the jobs, the capacity of each renewable resource, and the budget of each nonrenewable resource
+-- the jobs, the capacity of each renewable resource, the budget of each nonrenewable resource, and the calendar: rows that
+-- each name a renewable resource, periods, and what there is of it in these
 pub record Project : Type 0 where
   pub activities : List Activity
   pub capacities : List ℕ
   pub budgets : List ℕ
+  pub calendar : List CalRow
 
 abbrev pub no_mode : Mode
 no_mode = record { duration = 0; requests = []; needs = [] }
@@ -118,7 +121,26 @@ pub record IsActivityWithinLimits (n renewables nonrenewables : ℕ) (a : Activi
   pub ascending : IsAscending a.successors
   pub successors : All (λ s. (1 ≤ s) × (s ≤ n)) a.successors
 
--- the limits of this project's own: 1 to 128 jobs, at most 512 modes in all, at most 16 resources of each kind
+-- a row of the calendar: some of the first 10,000 periods, in which there is no more of the resource than its capacity
+pub record IsRowWithinLimits (capacities : List ℕ) (row : CalRow) : Type 0 where
+  pub some_resource : 1 ≤ row.resource
+  pub few_resources : row.resource ≤ length capacities
+  pub some_period : row.begin < row.until
+  pub until : row.until ≤ 10000
+  pub capacity : row.capacity ≤ slice_index capacities (row.resource - 1)
+
+-- a row may stand before the other: it is of a lower resource, or of the same one and over by then
+abbrev pub MayPrecede : CalRow → CalRow → Type 0
+MayPrecede a b = (a.resource < b.resource) ⊎ ((a.resource ≡ b.resource) × (a.until ≤ b.begin))
+
+-- rows by ascending resource, and those of one resource one after the other
+abbrev pub IsInOrder : List CalRow → Type 0
+IsInOrder [] = Unit {0}
+IsInOrder (a ∷ []) = Unit {0}
+IsInOrder (a ∷ b ∷ rows) = MayPrecede a b × IsInOrder (b ∷ rows)
+
+-- the limits of this project's own: 1 to 128 jobs, at most 512 modes in all, at most 16 resources of each kind and 256 rows
+-- in the calendar
 pub record IsWithinLimits (P : Project) : Type 0 where
   pub some_job : 1 ≤ job_count P
   pub few_jobs : job_count P ≤ 128
@@ -128,6 +150,9 @@ pub record IsWithinLimits (P : Project) : Type 0 where
   pub activities : All (IsActivityWithinLimits (length P.activities) (length P.capacities) (length P.budgets)) P.activities
   pub capacities : All (λ c. c ≤ 1000000) P.capacities
   pub budgets : All (λ b. b ≤ 1000000) P.budgets
+  pub few_rows : length P.calendar ≤ 256
+  pub rows : All (IsRowWithinLimits P.capacities) P.calendar
+  pub calendar : IsInOrder P.calendar
 
 -- a project: within the limits, and without a cycle
 pub record IsProject (P : Project) : Type 0 where

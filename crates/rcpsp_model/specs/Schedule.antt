@@ -1,6 +1,7 @@
 -- Schedules, and what they take of the resources. Periods count from 0; a job with start s and duration p is active in
 -- the periods s to s + p - 1, and in none where p is 0.
-use Rattle.std.specs.Prelude.{◌≡◌, ℕ, ◌+◌, ◌<◌, ◌≤◌, max, ◌&&◌, Bool, List, [], ◌∷◌, length, nat_le, nat_lt, sum_by, filter, All, Contains}
+use Rattle.std.specs.Prelude.{◌≡◌, ℕ, ◌+◌, ◌<◌, ◌≤◌, ◌==◌, max, min, ◌&&◌, Bool, List, [], ◌∷◌, length, fold, nat_le, nat_lt, sum_by, filter, All, Contains}
+use Rattle.rcpsp_model.specs.declared.parts.CalRow.{CalRow}
 use Rattle.rcpsp_model.specs.declared.parts.Entry.{Entry}
 use Rattle.rcpsp_model.specs.declared.parts.Placing.{Placing}
 use Rattle.rcpsp_model.specs.Project.{Project, duration, request, need, capacity, budget, job_count, Before, IsJob, IsMode, IsRenewable, IsNonrenewable}
@@ -25,13 +26,18 @@ abbrev pub end_of : Project → List Entry → ℕ
 end_of P [] = 0
 end_of P (e ∷ es) = max (finish P e) (end_of P es)
 
--- what there is of a renewable resource in a period
-unfoldable pub cap : Project → ℕ → ℕ → ℕ
-cap P k t = capacity P k
+-- whether the row is one of the resource and has the period
+abbrev pub covers : ℕ → ℕ → CalRow → Bool
+covers k t row = row.resource == k && (nat_le row.begin t && nat_lt t row.until)
 
--- from this period on each capacity is whole
+-- what there is of a renewable resource in a period: its capacity, or what the row of the calendar says that has the
+-- period, where that is less
+unfoldable pub cap : Project → ℕ → ℕ → ℕ
+cap P k t = fold (λ least row. min least row.capacity) (capacity P k) (filter (covers k t) P.calendar)
+
+-- the greatest end of a row of the calendar, 0 where there is none: from this period on each capacity is whole
 unfoldable pub calm : Project → ℕ
-calm P = 0
+calm P = fold (λ greatest row. max greatest row.until) 0 P.calendar
 
 -- A schedule is a list with one placing for each job, in the order of the jobs.
 

@@ -1,14 +1,14 @@
 -- The precedence tree (Patterson, Slowinski, Talbot and Weglarz 1989; Sprecher 1994): its nodes are fronts, which are
 -- partial schedules built job by job, and a front's children have one job more.
-use Rattle.std.specs.Prelude.{◌≡◌, ℕ, zero, suc, ◌+◌, ◌<◌, ◌≤◌, ◌⊎◌, ◌==◌, Bool, true, false, List, [], ◌∷◌, ◌++◌, length, fold, filter, not, sum_by, All}
-use Rattle.std.specs.List.{list_any}
+use Rattle.std.specs.Prelude.{◌≡◌, ℕ, ◌+◌, ◌<◌, ◌≤◌, ◌==◌, ◌&&◌, ◌||◌, Bool, true, false, List, [], ◌∷◌, ◌++◌, length, fold, filter, map, not, sum_by, All}
+use Rattle.std.specs.List.{list_any, list_all, flat_map, AllZip}
 use Rattle.rcpsp_model.specs.declared.parts.Child.{Child}
 use Rattle.rcpsp_model.specs.declared.parts.Child.TheVariants.{Placed, Shut}
 use Rattle.rcpsp_model.specs.declared.parts.Entry.{Entry}
 use Rattle.rcpsp_model.specs.declared.parts.Placing.{Placing}
 use Rattle.rcpsp_model.specs.declared.parts.Shut.{Shut as Why}
 use Rattle.rcpsp_model.specs.declared.parts.Shut.TheVariants.{NoCapacity, NoBudget, Inefficient}
-use Rattle.rcpsp_model.specs.Project.{Project, duration, request, budget, job_count, jobs, modes_of, Before, IsJob, IsMode, IsRenewable, IsNonrenewable}
+use Rattle.rcpsp_model.specs.Project.{Project, duration, request, budget, jobs, modes_of, is_before, numbers_from, Before, IsJob, IsMode, IsRenewable, IsNonrenewable}
 use Rattle.rcpsp_model.specs.Schedule.{finish, usage, used, entries, cap, Agrees, IsFeasible, KeepsBudgets}
 use Rattle.rcpsp_model.specs.Chain.{IsLeast}
 use Rattle.rcpsp_model.specs.Modes.{LacksCapacity, IsExecutable, IsInefficientBy, IsEfficient, least_need}
@@ -38,6 +38,14 @@ pub record IsEligible (P : Project) (F : List Entry) (j : ℕ) : Type 0 where
   pub job : IsJob P j
   pub unplaced : has_job F j ≡ false
   pub preds : (i : ℕ) → Before P i j → has_job F i ≡ true
+
+-- whether each predecessor of the job has an entry
+abbrev pub has_predecessors : Project → List Entry → ℕ → Bool
+has_predecessors P F j = list_all (λ i. not (is_before P i j) || has_job F i) (jobs P)
+
+-- the same as a test of a job
+abbrev pub is_eligible : Project → List Entry → ℕ → Bool
+is_eligible P F j = not (has_job F j) && has_predecessors P F j
 
 -- an entry that may follow the entries of F: an eligible job in one of its modes, at its least start, within the budgets
 pub record Follows (P : Project) (F : List Entry) (e : Entry) : Type 0 where
@@ -113,24 +121,29 @@ IsChild P F j m (Shut i n why) = (i ≡ j) × (n ≡ m) × IsShut P F j m why
 abbrev pub Children : Type 0
 Children = List (Child (List Entry))
 
--- the children of F by a job in its first modes, one after another
-abbrev pub ByMode : Project → List Entry → ℕ → ℕ → Children → Type 0
-ByMode P F j zero cs = cs ≡ []
-ByMode P F j (suc m) cs = (before : Children) × (c : Child (List Entry)) × (cs ≡ before ++ c ∷ []) × ByMode P F j m before × IsChild P F j (suc m) c
+-- The children of a front as a list: one for each eligible job in each of its modes.
 
--- the children of F by a job in all its modes, and none where the job isn't eligible
-abbrev pub ByJob : Project → List Entry → ℕ → Children → Type 0
-ByJob P F j cs = (IsEligible P F j × ByMode P F j (length (modes_of P j)) cs) ⊎ ((IsEligible P F j → ⊥) × (cs ≡ []))
+-- a job in one of its modes
+pub record Choice : Type 0 where
+  pub job : ℕ
+  pub mode : ℕ
 
--- the new list is the old one, and then a list of this kind
-abbrev pub Appends : {X : Type 0} → (List X → Type 0) → List X → List X → Type 0
-Appends {X} Q old new = (more : List X) × (new ≡ old ++ more) × Q more
+-- the job in its modes from 1 to n
+abbrev pub choices_by : ℕ → ℕ → List Choice
+choices_by j n = map (λ m. record { job = j; mode = m }) (numbers_from 1 n)
 
--- the children of F by the first jobs, one after another
-abbrev pub ByJobs : Project → List Entry → ℕ → Children → Type 0
-ByJobs P F zero cs = cs ≡ []
-ByJobs P F (suc j) cs = (before : Children) × ByJobs P F j before × Appends (ByJob P F (suc j)) before cs
+-- the job in each of its modes
+abbrev pub choices_of : Project → ℕ → List Choice
+choices_of P j = choices_by j (length (modes_of P j))
 
--- the children of F: by ascending job, and then by ascending mode
+-- what may be tried next after the entries of F: by ascending job, and then by ascending mode
+abbrev pub choices : Project → List Entry → List Choice
+choices P F = flat_map (choices_of P) (filter (is_eligible P F) (jobs P))
+
+-- the children of F by these choices, one by one
+abbrev pub AreChildrenBy : Project → List Entry → List Choice → Children → Type 0
+AreChildrenBy P F choices cs = AllZip (λ choice c. IsChild P F choice.job choice.mode c) choices cs
+
+-- the children of F
 abbrev pub AreChildren : Project → List Entry → Children → Type 0
-AreChildren P F cs = ByJobs P F (job_count P) cs
+AreChildren P F cs = AreChildrenBy P F (choices P F) cs

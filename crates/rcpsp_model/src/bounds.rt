@@ -1,4 +1,4 @@
-ghost use Rattle.rcpsp_model.specs.Laws.{TailLaw, HasTailLaw, JobTailLaw, WorkLaw, QuotientLaw, LowerLaw, GapLaw};
+ghost use Rattle.rcpsp_model.specs.Laws.{TailLaw, HasTailLaw, JobTailLaw, WorkLaw, QuotientLaw, LowerLaw, GapLaw, OneTailBoundLaw, OneWorkBoundLaw, OneLowerBoundLaw};
 
 /// What completes a front ends at its tail bound or later.
 #[tactic(auto, using(crate::proofs::BoundLemmas::tail_law))]
@@ -32,4 +32,11 @@ pub fn lower_bound()
 #[tactic(auto, using(crate::proofs::BoundLemmas::gap_law))]
 pub fn budget_gap()
     ensures { GapLaw }
+{}
+
+/// A front has one tail bound, one work bound of each resource that has a capacity, and one lower bound.
+pub fn one_bound()
+    ensures tail { OneTailBoundLaw }
+    ensures work { OneWorkBoundLaw }
+    ensures lower { OneLowerBoundLaw }
 {}

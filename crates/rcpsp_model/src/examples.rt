@@ -1,9 +1,15 @@
-ghost use Rattle.rcpsp_model.specs.Examples.{TwoInTurn, ZeroLengths, ShortOrCheap, NeedsDiffer};
+ghost use Rattle.rcpsp_model.specs.Examples.{TwoInTurn, AfterABreak, ZeroLengths, ShortOrCheap, NeedsDiffer};
 
 /// A capacity, a precedence and a tail bound, where two jobs can't run side by side.
 #[tactic(auto, using(crate::proofs::ExampleLemmas::two_facts))]
 pub fn two_in_turn()
     ensures { TwoInTurn }
+{}
+
+/// A calendar: a job that waits until there is enough of the resource again, and the work bound.
+#[tactic(auto, using(crate::proofs::ExampleLemmas::break_facts))]
+pub fn after_a_break()
+    ensures { AfterABreak }
 {}
 
 /// A front of jobs that take no time, and its one child.

@@ -11,6 +11,20 @@ pub struct Mode {
     pub needs: List<u32>,
 }
 
+/// A row of a project's calendar: in the periods from the first up to `until` there is only so much of a renewable resource,
+/// as on a holiday or while a machine is in repair.
+#[derive(Clone, Copy, Debug, PartialEq, Eq)]
+pub struct CalRow {
+    /// The number of the renewable resource, from 1.
+    pub resource: u8,
+    /// The first period, 0 to 9,999.
+    pub begin: u32,
+    /// The first period after, 1 to 10,000.
+    pub until: u32,
+    /// What there is of the resource in each of these periods: 0 to its capacity.
+    pub capacity: u32,
+}
+
 /// The mode and the first period of a job that the place in a list names.
 #[derive(Clone, Copy, Debug, PartialEq, Eq)]
 pub struct Placing {

@@ -1,4 +1,4 @@
-ghost use Rattle.rcpsp_model.specs.Laws.{FrontLaw, RootLaw, LeafLaw, ExchangeLaw, ListExchangeLaw, OneListLaw, ChildrenLaw, DominanceLaw};
+ghost use Rattle.rcpsp_model.specs.Laws.{FrontLaw, RootLaw, LeafLaw, ExchangeLaw, ListExchangeLaw, EligibleLaw, OneListLaw, ChildrenLaw, DominanceLaw};
 
 /// How long a front can be, and when it ends at the latest.
 #[tactic(auto, using(crate::proofs::TreeLemmas::front_law))]
@@ -23,6 +23,12 @@ pub fn leaf()
 pub fn exchange()
     ensures entry { ExchangeLaw }
     ensures list { ListExchangeLaw }
+{}
+
+/// A job is eligible exactly where the test says so.
+#[tactic(auto, using(crate::proofs::ChoiceLemmas::eligible_law))]
+pub fn eligible()
+    ensures { EligibleLaw }
 {}
 
 /// A front has one list of children: each eligible job has exactly one child by each of its modes.

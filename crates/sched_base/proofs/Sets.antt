@@ -8,12 +8,12 @@ use Rattle.std.proofs.Math.Pow.{pow_pos}
 use Rattle.sched_base.specs.declared.job_set.JobSet.{JobSet}
 use Rattle.sched_base.specs.JobSet.{member}
 
-member-zero : (s : JobSet) (k : ℕ) → bit_at s.0 k ≡ 0 → member s (k + 1) ≡ false
+pub member-zero : (s : JobSet) (k : ℕ) → bit_at s.0 k ≡ 0 → member s (k + 1) ≡ false
 member-zero s k h =
     ap (λ e. not (eqb (bit_and s.0 (2 ^ e)) 0)) (let z : k + 1 - 1 ≡ k = omega arith in z)
     ∙ ap not (eq-eqb _ 0 (and_pow s.0 k ∙ ap (λ b. b * 2 ^ k) h ∙ zero-mul (2 ^ k)))
 
-member-one : (s : JobSet) (k : ℕ) → bit_at s.0 k ≡ 1 → member s (k + 1) ≡ true
+pub member-one : (s : JobSet) (k : ℕ) → bit_at s.0 k ≡ 1 → member s (k + 1) ≡ true
 member-one s k h =
     ap (λ e. not (eqb (bit_and s.0 (2 ^ e)) 0)) (let z : k + 1 - 1 ≡ k = omega arith in z)
     ∙ ap not (ne_eqb _ 0 (λ z. let p : 0 < 2 ^ k = pow_pos k in let e : bit_and s.0 (2 ^ k) ≡ 1 * 2 ^ k = and_pow s.0 k ∙ ap (λ b. b * 2 ^ k) h in omega arith))

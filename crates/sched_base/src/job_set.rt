@@ -1,4 +1,4 @@
-ghost use Rattle.std.specs.Prelude.{◌≡◌, ℕ, ◌-◌, ◌≤◌, ◌==◌, ◌||◌, ◌↔◌, true, false, IsTrue, count_ones};
+ghost use Rattle.std.specs.Prelude.{◌≡◌, ℕ, ◌-◌, ◌<◌, ◌≤◌, ◌==◌, ◌||◌, ◌↔◌, true, false, IsTrue, IfSome, IfNone, count_ones};
 
 use crate::job::Job;
 
@@ -7,7 +7,7 @@ use crate::job::Job;
 pub struct JobSet(pub u128);
 
 impl JobSet {
-    ghost use Rattle.sched_base.specs.JobSet.{member};
+    ghost use Rattle.sched_base.specs.JobSet.{member, IsNextMember};
 
     /// The set without a job.
     pub fn empty() -> JobSet
@@ -46,6 +46,23 @@ impl JobSet {
         ensures { IsTrue result ↔ ((i : ℕ) → 1 ≤ i → member self i ≡ true → member other i ≡ true) }
     {
         self.union(other) == other
+    }
+
+    /// The lowest job of the set above a number up to 128, if it has one: from 0 on, each job of the set once, in order.
+    pub fn next_after(self, above: u8) -> Option<Job>
+        requires { above ≤ 128 }
+        ensures some { IfSome result (λ job. IsNextMember self above job.0) }
+        ensures high { IfSome result (λ job. job.0 ≤ 128) }
+        ensures none { IfNone result ((i : ℕ) → above < i → member self i ≡ false) }
+    {
+        if above == 128 {
+            return None;
+        }
+        let rest = self.0 >> above;
+        if rest == 0 {
+            return None;
+        }
+        Some(Job(above + 1 + rest.trailing_zeros() as u8))
     }
 
     /// How many jobs the set has.

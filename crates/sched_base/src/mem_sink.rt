@@ -87,6 +87,9 @@ impl Sink for MemSink {
         ensures count { IfOk result (λ n. n ≡ min (length piece.now) (min self.old.step (self.old.room - length self.old.held))) }
         ensures calls { self.new.calls ≡ next_count self.old.calls }
         ensures faults { self.new.faults ≡ count_after (write_fails self.old piece.now) self.old.faults }
+        ensures room { self.new.room ≡ self.old.room }
+        ensures failing { self.new.failing ≡ self.old.failing }
+        ensures step { self.new.step ≡ self.old.step }
     {
         let is_listed = is_listed(&self.failing, self.calls);
         self.calls = self.calls.saturating_add(1);
