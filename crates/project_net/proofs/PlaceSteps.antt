@@ -1,7 +1,7 @@
 -- The places of a schedule, one entry further.
-use Rattle.std.proofs.Common.{◌≡◌, ℕ, zero, suc, ◌+◌, ◌-◌, ◌<◌, ◌≤◌, inl, inr, arith, refl, sym, ap, subst, ◌∙◌, List, [], ◌∷◌, ◌++◌, length, get_or, take, set, length-set, get_or-set_same, get_or-set_other, append_assoc, true, false, eqb}
+use Rattle.std.proofs.Common.{◌≡◌, ℕ, zero, suc, ◌+◌, ◌-◌, ◌<◌, ◌≤◌, inl, inr, arith, sym, ap, subst, ◌∙◌, List, [], ◌∷◌, ◌++◌, length, get_or, take, set, length-set, get_or-set_same, get_or-set_other, append_assoc, true, false}
 use Rattle.std.specs.Prelude.{Contains}
-use Rattle.std.proofs.lemmas.Bool.{both_ways, or_from, ne_eqb}
+use Rattle.std.proofs.lemmas.Bool.{both_ways}
 use Rattle.std.proofs.lemmas.List.{append-nil, take_more}
 use Rattle.std.proofs.lemmas.List.Elements.{Contains-get_or}
 use Rattle.rcpsp_model.specs.declared.parts.Entry.{Entry}
@@ -47,7 +47,7 @@ places-push n F e places job jobs new h =
       ];
     }
 
-entry-in : (i : ℕ) (ps : List Placing) (k j : ℕ) (q : Placing) → k < length ps → j ≡ i + k → get_or ps k spot ≡ q → In (entries_from i ps) (record { job = j; mode = q.mode; start = q.start })
+pub entry-in : (i : ℕ) (ps : List Placing) (k j : ℕ) (q : Placing) → k < length ps → j ≡ i + k → get_or ps k spot ≡ q → In (entries_from i ps) (record { job = j; mode = q.mode; start = q.start })
 entry-in i [] k j q h n e = absurd (let z : k < 0 = h in omega arith)
 entry-in i (p ∷ ps) zero j q h n e =
     inl (ap (λ (x : ℕ). entry_at x p.mode p.start) (let same : i ≡ j = omega arith in same) ∙ ap (λ (z : Placing). entry_at j z.mode z.start) e)

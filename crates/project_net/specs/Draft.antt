@@ -1,7 +1,7 @@
 -- Drafts of projects: the project that a draft describes, and the faults that it may have.
-use Rattle.std.specs.Prelude.{ℕ, ◌≤◌, List, [], length, map, filter, sum_by, All}
+use Rattle.std.specs.Prelude.{ℕ, ◌≤◌, [], length, map, filter, sum_by, All}
 use Rattle.std.specs.List.{range_with_len}
-use Rattle.rcpsp_model.specs.Project.{Project, Activity, IsModeWithinLimits}
+use Rattle.rcpsp_model.specs.Project.{Project, Activity, IsModeWithinLimits, IsRowWithinLimits, IsInOrder}
 use Rattle.rcpsp_model.specs.Rank.{is_among}
 use Rattle.project_net.specs.declared.draft.Draft.{Draft}
 use Rattle.project_net.specs.declared.draft.DraftJob.{DraftJob}
@@ -20,9 +20,11 @@ project_of draft = record {
   activities = map (activity_of (length draft.jobs)) draft.jobs;
   capacities = draft.capacities;
   budgets = draft.budgets;
+  calendar = draft.calendar;
 }
 
--- 1 to 128 jobs, at most 512 modes in all and 16 resources of each kind, and no capacity or budget above 1,000,000
+-- 1 to 128 jobs, at most 512 modes in all and 16 resources of each kind, no capacity or budget above 1,000,000, and at most
+-- 256 rows in the calendar, each within the limits and after those before it
 pub record IsWithinCounts (draft : Draft) : Type 0 where
   pub some_job : 1 ≤ length draft.jobs
   pub few_jobs : length draft.jobs ≤ 128
@@ -31,6 +33,9 @@ pub record IsWithinCounts (draft : Draft) : Type 0 where
   pub few_nonrenewables : length draft.budgets ≤ 16
   pub capacities : All (λ c. c ≤ 1000000) draft.capacities
   pub budgets : All (λ b. b ≤ 1000000) draft.budgets
+  pub few_rows : length draft.calendar ≤ 256
+  pub rows : All (IsRowWithinLimits draft.capacities) draft.calendar
+  pub calendar : IsInOrder draft.calendar
 
 -- 1 to 16 modes, each within the limits
 pub record IsJobWithinLimits (renewables nonrenewables : ℕ) (job : DraftJob) : Type 0 where

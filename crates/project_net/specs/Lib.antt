@@ -2,10 +2,15 @@ pub mod Draft
 pub mod Order
 pub mod Refusal
 pub mod Least
+pub mod Causes
+pub mod Budget
+pub mod Oracle
 pub mod Tails
 pub mod Flat
 pub mod Flatten
+pub mod Stretches
 pub mod Prepared
 pub mod Canonical
 pub mod Printing
 pub mod Placings
+pub mod Feasible

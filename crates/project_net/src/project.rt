@@ -1,13 +1,17 @@
-ghost use Rattle.std.specs.Prelude.{◌≡◌, ℕ, ◌≤◌, ◌↔◌, IsTrue, length, sum_by, All, IfOk, IfErr, OnOk};
+ghost use Rattle.std.specs.Prelude.{◌≡◌, ℕ, ◌<◌, ◌≤◌, ◌↔◌, IsTrue, length, slice_get, sum_by, All, Some, IfOk, IfErr, IfSome, IfNone, OnOk};
 
+use crate::causes::{ModeCauses, all_causes};
 use crate::chains::tails;
 use crate::draft::{BuildRefusal, Draft};
+use crate::feasible;
 use crate::least::{LeastValues, least_values, place_in};
 use crate::network::Network;
 use crate::order::{jobs_in_order, ranks};
 use crate::reach::lowest_on_cycle;
 use crate::refusal::first_refusal;
 use crate::schedule::Schedule;
+use crate::stretches::{Stretch, StretchTable, place_at, stretch_table};
+use rcpsp_model::CalRow;
 use sched_base::{JobSet, NoMemory};
 use std::alloc::Global;
 use std::marker::Model;
@@ -22,6 +26,8 @@ pub struct Project {
     least: LeastValues,
     tails: Vec<u32>,
     ranks: Vec<u8>,
+    stretches: StretchTable,
+    causes: Vec<ModeCauses>,
 }
 
 impl Model for Project {
@@ -32,19 +38,22 @@ impl Model for Project {
 
     ghost view = { λ p. p.network };
 
-    ghost invariant = { λ p. IsPrepared p.network p.order.items p.least p.tails.items p.ranks.items };
+    ghost invariant = { λ p. IsPrepared p.network p.order.items p.least p.tails.items p.ranks.items p.stretches p.causes.items };
 }
 
 impl Project {
-    ghost use Rattle.rcpsp_model.specs.Project.{IsProject, IsAcyclic, IsJob, IsMode, IsRenewable, IsNonrenewable, job_count, jobs, modes_of, renewables, nonrenewables, duration, request, need, capacity, budget, is_before};
-    ghost use Rattle.rcpsp_model.specs.Schedule.{end_of, entries};
-    ghost use Rattle.rcpsp_model.specs.Chain.{least_duration, IsTail};
-    ghost use Rattle.rcpsp_model.specs.Modes.{least_need, least_work};
+    ghost use Rattle.rcpsp_model.specs.Project.{IsProject, IsAcyclic, IsJob, IsMode, IsRenewable, IsNonrenewable, job_count, jobs, modes_of, mode_of, renewables, nonrenewables, duration, request, need, capacity, budget, is_before};
+    ghost use Rattle.rcpsp_model.specs.Schedule.{IsFeasible, cap, calm, end_of, entries};
+    ghost use Rattle.rcpsp_model.specs.Chain.{IsLeast, least_duration, IsTail};
+    ghost use Rattle.rcpsp_model.specs.Modes.{least_need, least_work, LacksCapacity, IsExecutable, IsInefficientBy, IsEfficient};
     ghost use Rattle.sched_base.specs.JobSet.{member};
     ghost use Rattle.project_net.specs.Draft.{project_of};
     ghost use Rattle.rcpsp_model.specs.Rank.{IsLowestFirst, IsRank};
     ghost use Rattle.project_net.specs.Order.{IsTopological};
     ghost use Rattle.project_net.specs.Refusal.{IsRefusal, IsSound};
+    ghost use Rattle.project_net.specs.Stretches.{AreStretches};
+    ghost use Rattle.project_net.specs.Causes.{AreCauses};
+    ghost use Rattle.project_net.specs.Budget.{with_budget};
 
     /// The project of a network without a cycle.
     fn prepare(alloc: Global, network: Network) -> Result<Project, NoMemory>
@@ -61,12 +70,16 @@ impl Project {
             least.durations.as_slice(),
         )?;
         let ranks = ranks(alloc, &network, order.as_slice())?;
+        let stretches = stretch_table(alloc, &network)?;
+        let causes = all_causes(alloc, &network)?;
         Ok(Project {
             network,
             order,
             least,
             tails,
             ranks,
+            stretches,
+            causes,
         })
     }
 
@@ -84,6 +97,16 @@ impl Project {
             Some(job) => Err(BuildRefusal::Cycle { job }),
             None => Ok(Project::prepare(alloc, network)?),
         }
+    }
+
+    /// The project that differs in the budget of one nonrenewable resource, which is 0 to 1,000,000.
+    pub fn with_budget(&self, alloc: Global, resource: u8, budget: u32) -> Result<Project, NoMemory>
+        requires resource { IsNonrenewable self.now resource }
+        requires budget { budget ≤ 1000000 }
+        ensures { IfOk result (λ p. p ≡ with_budget self.now resource budget) }
+    {
+        let network = self.network.with_budget(alloc, resource, budget)?;
+        Project::prepare(alloc, network)
     }
 
     /// What is known of every project; it does nothing.
@@ -160,13 +183,101 @@ impl Project {
         self.network.need(job, mode, resource)
     }
 
-    /// What there is of a renewable resource in each period, 0 to 1,000,000.
+    /// What a job in a mode asks of each renewable resource in each of its periods, by resource: 0 to 1,000,000 each.
+    pub fn requests(&self, job: u8, mode: u8) -> &[u32]
+        requires job { IsJob self.now job }
+        requires mode { IsMode self.now job mode }
+        ensures value { result.now ≡ (mode_of self.now job mode).requests }
+        ensures size { length result.now ≡ renewables self.now }
+        ensures limit { All (λ r. r ≤ 1000000) result.now }
+    {
+        self.network.requests(job, mode)
+    }
+
+    /// What a job in a mode needs of each nonrenewable resource in all, by resource: 0 to 1,000,000 each.
+    pub fn needs(&self, job: u8, mode: u8) -> &[u32]
+        requires job { IsJob self.now job }
+        requires mode { IsMode self.now job mode }
+        ensures value { result.now ≡ (mode_of self.now job mode).needs }
+        ensures size { length result.now ≡ nonrenewables self.now }
+        ensures limit { All (λ r. r ≤ 1000000) result.now }
+    {
+        self.network.needs(job, mode)
+    }
+
+    /// What there is of each renewable resource in each period that no row of the calendar has, by resource: 0 to
+    /// 1,000,000 each.
+    pub fn capacities(&self) -> &[u32]
+        ensures value { result.now ≡ self.now.capacities }
+        ensures size { length result.now ≡ renewables self.now }
+        ensures limit { All (λ c. c ≤ 1000000) result.now }
+    {
+        self.network.capacities()
+    }
+
+    /// What there is of each nonrenewable resource in all, by resource: 0 to 1,000,000 each.
+    pub fn budgets(&self) -> &[u32]
+        ensures value { result.now ≡ self.now.budgets }
+        ensures size { length result.now ≡ nonrenewables self.now }
+        ensures limit { All (λ b. b ≤ 1000000) result.now }
+    {
+        self.network.budgets()
+    }
+
+    /// What there is of a renewable resource in each period that no row of the calendar has, 0 to 1,000,000.
     pub fn capacity(&self, resource: u8) -> u32
         requires { IsRenewable self.now resource }
         ensures value { result ≡ capacity self.now resource }
         ensures limit { result ≤ 1000000 }
     {
         self.network.capacity(resource)
+    }
+
+    /// What there is of a renewable resource in a period, 0 to 1,000,000.
+    pub fn capacity_at(&self, resource: u8, period: u32) -> u32
+        requires { IsRenewable self.now resource }
+        ensures value { result ≡ cap self.now resource period }
+        ensures limit { result ≤ 1000000 }
+    {
+        let stretches = self.stretches(resource);
+        stretches[place_at(stretches, period)].capacity
+    }
+
+    /// What there is of a renewable resource, as stretches of periods: the first from period 0 on, each up to the next, and
+    /// the last for good. A resource without a row in the calendar has one.
+    pub fn stretches(&self, resource: u8) -> &[Stretch]
+        requires { IsRenewable self.now resource }
+        ensures { AreStretches self.now resource result.now }
+    {
+        let first = self.stretches.firsts[resource as usize - 1];
+        let next = self.stretches.firsts[resource as usize];
+        &self.stretches.stretches.as_slice()[first..next]
+    }
+
+    /// The greatest end of a row of the calendar, 0 to 10,000, and 0 where there is none: from this period on each capacity
+    /// is whole.
+    pub fn calm(&self) -> u32
+        ensures value { result ≡ calm self.now }
+        ensures limit { result ≤ 10000 }
+    {
+        self.stretches.calm
+    }
+
+    /// The number of rows of the calendar, 0 to 256.
+    pub fn cal_rows(&self) -> u32
+        ensures value { result ≡ length self.now.calendar }
+        ensures few { result ≤ 256 }
+    {
+        self.network.known();
+        self.network.calendar().len() as u32
+    }
+
+    /// The row of the calendar at a place, from 0.
+    pub fn cal_row(&self, place: u32) -> CalRow
+        requires { place < length self.now.calendar }
+        ensures { slice_get self.now.calendar place ≡ Some result }
+    {
+        self.network.calendar()[place as usize]
     }
 
     /// What there is of a nonrenewable resource in all, 0 to 1,000,000.
@@ -234,6 +345,36 @@ impl Project {
         self.least.needs_of_all[resource as usize - 1]
     }
 
+    /// The causes for which no front comes of a job in a mode.
+    fn causes_of(&self, job: u8, mode: u8) -> ModeCauses
+        requires job { IsJob self.now job }
+        requires mode { IsMode self.now job mode }
+        ensures { AreCauses self.now job mode result }
+    {
+        self.causes[self.network.place(job, mode)]
+    }
+
+    /// The lowest renewable resource of which a mode that takes time asks more than its capacity.
+    pub fn lacking(&self, job: u8, mode: u8) -> Option<u8>
+        requires job { IsJob self.now job }
+        requires mode { IsMode self.now job mode }
+        ensures some { IfSome result (IsLeast (LacksCapacity self.now job mode)) }
+        ensures none { IfNone result (IsExecutable self.now job mode) }
+    {
+        self.causes_of(job, mode).lacking
+    }
+
+    /// The lowest mode that makes a mode of a job inefficient: one that takes no more, and takes less or has the lower
+    /// number (Sprecher, Hartmann and Drexl 1997).
+    pub fn inefficient(&self, job: u8, mode: u8) -> Option<u8>
+        requires job { IsJob self.now job }
+        requires mode { IsMode self.now job mode }
+        ensures by { IfSome result (IsLeast (IsInefficientBy self.now job mode)) }
+        ensures none { IfNone result (IsEfficient self.now job mode) }
+    {
+        self.causes_of(job, mode).inefficient
+    }
+
     /// The greatest sum of least durations over the chains of successors that begin with a job, that job included: 0 to
     /// 1,280,000.
     pub fn tail(&self, job: u8) -> u32
@@ -281,6 +422,16 @@ impl Project {
             }
         }
         true
+    }
+
+    /// Whether a schedule is feasible: each job in one of its modes and after its predecessors, no usage above what there is
+    /// of a renewable resource, and no needs above a budget. It takes no memory.
+    pub fn is_feasible(&self, schedule: &Schedule) -> bool
+        requires whole { length schedule.now ≡ job_count self.now }
+        requires starts { All (λ p. p.start ≤ 999999999) schedule.now }
+        ensures { IsTrue result ↔ IsFeasible self.now schedule.now }
+    {
+        feasible::is_feasible(self, schedule)
     }
 
     /// The greatest finish of a schedule.
