@@ -4,7 +4,7 @@ use Rattle.std.specs.Prelude.{All, sum_by}
 use Rattle.std.specs.List.{AllByRecursion}
 use Rattle.std.proofs.lemmas.List.Elements.{All-head, All-tail, All-weaker, recursion_from_All}
 use Rattle.std.proofs.lemmas.List.Sums.{sum_by-cons}
-use Rattle.rcpsp_model.specs.Project.{Project, Activity, IsActivityWithinLimits, IsModeWithinLimits, IsWithinLimits, job_count, numbers_from}
+use Rattle.rcpsp_model.specs.Project.{Project, Activity, IsActivityWithinLimits, IsModeWithinLimits, IsRowWithinLimits, IsWithinLimits, job_count, numbers_from}
 use Rattle.rcpsp_model.specs.declared.parts.Mode.{Mode}
 use Rattle.rcpsp_model.specs.Rank.{is_among}
 use Rattle.project_net.proofs.Listed.{ascending-found}
@@ -15,6 +15,7 @@ use Rattle.psplib_layout.specs.declared.content.Content.{Content}
 use Rattle.psplib_layout.specs.Precedence.{IsRow, IsJob, AreRows, mode_total}
 use Rattle.psplib_layout.specs.Requests.{AreModes}
 use Rattle.psplib_layout.specs.Availabilities.{AreAmounts}
+use Rattle.psplib_layout.specs.Calendar.{AreCalRows}
 use Rattle.psplib_layout.specs.Layout.{mode_counts, ascending, activities_of, project_of}
 
 abbrev pub row_of : Activity → JobRow
@@ -33,7 +34,7 @@ abbrev pub modes_of_all : List Activity → List (List Mode)
 modes_of_all acts = map (λ a. a.modes) acts
 
 abbrev pub content_of : Project → Content
-content_of P = record { header = header_of P; rows = rows_of P.activities; modes = modes_of_all P.activities; amounts = amounts_of P }
+content_of P = record { header = header_of P; rows = rows_of P.activities; modes = modes_of_all P.activities; amounts = amounts_of P; calendar = P.calendar }
 
 abbrev IsWithin : ℕ → ℕ → ℕ → Activity → Type 0
 IsWithin n R N a = IsActivityWithinLimits n R N a
@@ -101,7 +102,7 @@ same_counts (a ∷ acts) = ap (λ (ks : List ℕ). length a.modes ∷ ks) (same_
 -- the content describes the project
 pub described : (P : Project) → IsWithinLimits P → project_of (content_of P) ≡ P
 described P w =
-    ap (λ (acts : List Activity). (let q : Project = record { activities = acts; capacities = P.capacities; budgets = P.budgets } in q))
+    ap (λ (acts : List Activity). (let q : Project = record { activities = acts; capacities = P.capacities; budgets = P.budgets; calendar = P.calendar } in q))
     (same_activities (length P.activities) (length P.capacities) (length P.budgets) P.activities w.activities)
 
 pub rows_limits : (P : Project) → IsWithinLimits P → AreRows (length P.activities) (rows_of P.activities)
@@ -127,4 +128,11 @@ amounts_limits P w = record {
   all_budgets = refl;
   capacities = recursion_from_All (λ (c : ℕ). c ≤ 1000000) P.capacities w.capacities;
   budgets = recursion_from_All (λ (b : ℕ). b ≤ 1000000) P.budgets w.budgets;
+}
+
+pub calendar_limits : (P : Project) → IsWithinLimits P → AreCalRows P.capacities P.calendar
+calendar_limits P w = record {
+  few_rows = w.few_rows;
+  each = recursion_from_All (IsRowWithinLimits P.capacities) P.calendar w.rows;
+  in_order = w.calendar;
 }

@@ -11,13 +11,15 @@ use Rattle.std.proofs.lemmas.List.Folds.{list_all-append}
 use Rattle.std.proofs.lemmas.List.Sums.{sum_by-le}
 use Rattle.psplib_lex.specs.Line.{is_line_end}
 use Rattle.rcpsp_model.specs.Project.{Project, Activity, IsWithinLimits, IsActivityWithinLimits, IsModeWithinLimits, job_count, jobs, renewables, nonrenewables, numbers_from}
+use Rattle.rcpsp_model.specs.declared.parts.CalRow.{CalRow}
 use Rattle.rcpsp_model.specs.declared.parts.Mode.{Mode}
-use Rattle.project_net.specs.Canonical.{spaced, row, keyed, greatest, horizon, precedence_row, labels, all_labels, all_mode_lines, stars, hyphens, title_lines, resource_lines, information_lines, precedence_lines, requests_lines, amount_lines, availability_lines, canonical_lines}
+use Rattle.rcpsp_model.proofs.CalendarLemmas.{calm_law}
+use Rattle.project_net.specs.Canonical.{spaced, row, keyed, greatest, horizon, precedence_row, labels, all_labels, all_mode_lines, stars, hyphens, title_lines, resource_lines, information_lines, precedence_lines, requests_lines, amount_lines, availability_lines, calendar_row, calendar_lines, canonical_lines}
 use Rattle.project_net.proofs.Appended.{length-numbers}
 use Rattle.psplib_canonical.proofs.Words.{is_word, decimal-word}
 use Rattle.psplib_canonical.proofs.Kept.{is_whole, is_fit}
 use Rattle.psplib_canonical.proofs.Rows.{word_whole, whole-append, spaced_whole, spaced_short, fit-from}
-use Rattle.psplib_canonical.proofs.PartRows.{precedence_rows, requests_rows, modes-count}
+use Rattle.psplib_canonical.proofs.PartRows.{precedence_rows, requests_rows, calendar_rows, modes-count}
 use Rattle.psplib_canonical.proofs.Parts.{labels_words, amounts_line}
 
 -- a line, and all lines, that can be written
@@ -75,6 +77,7 @@ horizon_small : (P : Project) → IsWithinLimits P → horizon P < 2 ^ 64
 unfolding horizon job_count
 horizon_small P w =
     let few = w.few_jobs in
+    let calm = calm_law P w in
     let R = length P.capacities in let N = length P.budgets in
     let all : All (λ a. greatest (map (λ m. m.duration) a.modes) ≤ 10000) P.activities =
     All-weaker (IsActivityWithinLimits (length P.activities) R N) (λ (a : Activity). greatest (map (λ m. m.duration) a.modes) ≤ 10000) (λ a (l : IsActivityWithinLimits (length P.activities) R N a). greatest-le a.modes R N 0 (omega arith) l.modes) P.activities w.activities in
@@ -228,6 +231,17 @@ module _ (P : Project) (limits : IsWithinLimits P) where
   unfolding availability_lines
   availability_fit = plain (codes "RESOURCEAVAILABILITIES:") _ refl (fit-append (amount_lines P) (stars ∷ []) amounts_fit (both stars [] stars_fit none_more))
 
+  calendar_fit : AreFit (calendar_lines P)
+  unfolding calendar_lines
+  calendar_fit = go (eqb (length P.calendar) 0)
+    where
+      go : (none : Bool) → AreFit (cond none [] (codes "CALENDAR:" ∷ codes "resource from to capacity" ∷ decimal (length P.calendar) ∷ (map (λ r. row (calendar_row r)) P.calendar ++ stars ∷ [])))
+      go true = none_more
+      go false =
+          plain (codes "CALENDAR:") _ refl
+          (plain (codes "resource from to capacity") _ refl
+          (fit-append (decimal (length P.calendar) ∷ map (λ r. row (calendar_row r)) P.calendar) (stars ∷ []) (record { all = (calendar_rows P limits).fit }) (both stars [] stars_fit none_more)))
+
   canonical_are : AreFit (canonical_lines P)
   unfolding canonical_lines
   canonical_are =
@@ -235,7 +249,8 @@ module _ (P : Project) (limits : IsWithinLimits P) where
       (fit-append (resource_lines P) _ resource_fit
       (fit-append (information_lines P) _ information_fit
       (fit-append (precedence_lines P) _ precedence_fit
-      (fit-append (requests_lines P) _ requests_fit availability_fit))))
+      (fit-append (requests_lines P) _ requests_fit
+      (fit-append (availability_lines P) (calendar_lines P) availability_fit calendar_fit)))))
 
   pub canonical_fit : list_all is_fit (canonical_lines P) ≡ true
   canonical_fit = canonical_are.all
@@ -287,13 +302,27 @@ module _ (P : Project) (limits : IsWithinLimits P) where
       let joined : length (amount_lines P ++ stars ∷ []) ≡ length (amount_lines P) + 1 = length-append (amount_lines P) (stars ∷ []) in
       omega arith
 
-  pub few_lines : length (canonical_lines P) ≤ 700
+  calendar_count : length (calendar_lines P) ≤ 260
+  unfolding calendar_lines
+  calendar_count = go (eqb (length P.calendar) 0)
+    where
+      go : (none : Bool) → length (cond none [] (codes "CALENDAR:" ∷ codes "resource from to capacity" ∷ decimal (length P.calendar) ∷ (map (λ r. row (calendar_row r)) P.calendar ++ stars ∷ []))) ≤ 260
+      go true = omega arith
+      go false =
+          let few = limits.few_rows in
+          let rows : List (List ℕ) = map (λ r. row (calendar_row r)) P.calendar in
+          let count : length rows ≡ length P.calendar = length-map P.calendar (λ (r : CalRow). row (calendar_row r)) in
+          let joined : length (rows ++ stars ∷ []) ≡ length rows + 1 = length-append rows (stars ∷ []) in
+          omega arith
+
+  pub few_lines : length (canonical_lines P) ≤ 1000
   unfolding canonical_lines
   few_lines =
-      let a = title_count in let b = resource_count in let c = information_count in let d = precedence_count in let e = requests_count in let f = availability_count in
-      let five = length-append (requests_lines P) (availability_lines P) in
-      let four = length-append (precedence_lines P) (requests_lines P ++ availability_lines P) in
-      let three = length-append (information_lines P) (precedence_lines P ++ (requests_lines P ++ availability_lines P)) in
-      let two = length-append (resource_lines P) (information_lines P ++ (precedence_lines P ++ (requests_lines P ++ availability_lines P))) in
-      let one = length-append (title_lines P) (resource_lines P ++ (information_lines P ++ (precedence_lines P ++ (requests_lines P ++ availability_lines P)))) in
+      let a = title_count in let b = resource_count in let c = information_count in let d = precedence_count in let e = requests_count in let f = availability_count in let g = calendar_count in
+      let six = length-append (availability_lines P) (calendar_lines P) in
+      let five = length-append (requests_lines P) (availability_lines P ++ calendar_lines P) in
+      let four = length-append (precedence_lines P) (requests_lines P ++ (availability_lines P ++ calendar_lines P)) in
+      let three = length-append (information_lines P) (precedence_lines P ++ (requests_lines P ++ (availability_lines P ++ calendar_lines P))) in
+      let two = length-append (resource_lines P) (information_lines P ++ (precedence_lines P ++ (requests_lines P ++ (availability_lines P ++ calendar_lines P)))) in
+      let one = length-append (title_lines P) (resource_lines P ++ (information_lines P ++ (precedence_lines P ++ (requests_lines P ++ (availability_lines P ++ calendar_lines P))))) in
       omega arith

@@ -3,12 +3,12 @@ use Rattle.std.proofs.Common.{◌≡◌, ℕ, ◌-◌, ◌^◌, ◌<◌, true, f
 use Rattle.std.specs.List.{concat}
 use Rattle.std.specs.Fmt.{decimal}
 use Rattle.psplib_lex.specs.Line.{Line, words_of, line_from}
-use Rattle.psplib_lex.specs.Number.{number_of}
+use Rattle.psplib_lex.specs.Number.{word_value}
 use Rattle.psplib_layout.specs.Title.{begins_with, header_value}
 use Rattle.psplib_layout.specs.Header.{ReadsHeader, HasTitle, HasValue, HasColon}
 use Rattle.rcpsp_model.specs.Project.{Project, IsWithinLimits, job_count, renewables, nonrenewables}
 use Rattle.project_net.specs.Canonical.{keyed, stars, spaced, horizon, title_lines, resource_lines, information_lines}
-use Rattle.psplib_canonical.proofs.Words.{words_of-append, words_of-word, number_of-decimal, decimal-word}
+use Rattle.psplib_canonical.proofs.Words.{words_of-append, words_of-word, word_value-decimal, decimal-word}
 use Rattle.psplib_canonical.proofs.Kept.{keep, kept, keep_line, skip}
 use Rattle.psplib_canonical.proofs.Rows.{keeps}
 use Rattle.psplib_canonical.proofs.ContentOf.{header_of}
@@ -99,7 +99,7 @@ jobs_value : (n : ℕ) → n < 2 ^ 64 → HasValue (codes "jobs") (line_from 6 (
 unfolding words_of
 jobs_value n h =
     let words = number_words (codes "jobs (incl. supersource/sink )") n h in
-    record { titled = ap (λ (ws : List (List ℕ)). begins_with (codes "jobs") (concat ws)) words; word = decimal n; value = ap header_value words; number = number_of-decimal n h }
+    record { titled = ap (λ (ws : List (List ℕ)). begins_with (codes "jobs") (concat ws)) words; word = decimal n; value = ap header_value words; number = word_value-decimal n h }
 
 horizon_colon : (value : List ℕ) → HasColon (codes "horizon") (line_from 7 (keyed (codes "horizon") value))
 unfolding words_of
@@ -111,20 +111,20 @@ renewable_value : (n : ℕ) → n < 2 ^ 64 → HasValue (codes "-renewable") (li
 unfolding words_of
 renewable_value n h =
     let words = counted_words (codes "  - renewable") n 0x52 h in
-    record { titled = ap (λ (ws : List (List ℕ)). begins_with (codes "-renewable") (concat ws)) words; word = decimal n; value = ap header_value words; number = number_of-decimal n h }
+    record { titled = ap (λ (ws : List (List ℕ)). begins_with (codes "-renewable") (concat ws)) words; word = decimal n; value = ap header_value words; number = word_value-decimal n h }
 
 nonrenewable_value : (n : ℕ) → n < 2 ^ 64 → HasValue (codes "-nonrenewable") (line_from 10 (keyed (codes "  - nonrenewable") (decimal n ++ codes "   N"))) n
 unfolding words_of
 nonrenewable_value n h =
     let words = counted_words (codes "  - nonrenewable") n 0x4E h in
-    record { titled = ap (λ (ws : List (List ℕ)). begins_with (codes "-nonrenewable") (concat ws)) words; word = decimal n; value = ap header_value words; number = number_of-decimal n h }
+    record { titled = ap (λ (ws : List (List ℕ)). begins_with (codes "-nonrenewable") (concat ws)) words; word = decimal n; value = ap header_value words; number = word_value-decimal n h }
 
 projects_value : HasValue (codes "projects") (line_from 5 (keyed (codes "projects") (codes "1"))) 1
-unfolding keyed words_of number_of
+unfolding keyed words_of word_value
 projects_value = record { titled = refl; word = codes "1"; value = refl; number = refl }
 
 doubly_value : HasValue (codes "-doublyconstrained") (line_from 11 (keyed (codes "  - doubly constrained") (codes "0   D"))) 0
-unfolding keyed words_of number_of
+unfolding keyed words_of word_value
 doubly_value = record { titled = refl; word = codes "0"; value = refl; number = refl }
 
 resources_title : HasTitle (codes "RESOURCES") (line_from 8 (codes "RESOURCES"))

@@ -1,17 +1,19 @@
--- The rows of the precedence part and of the requests part are lines of the numbers that these parts are to spell.
+-- The rows of the precedence, requests and calendar parts are lines of the numbers that these parts are to spell.
 use Rattle.std.proofs.Common.{◌≡◌, ℕ, suc, ◌+◌, ◌-◌, ◌^◌, ◌≤◌, ◌<◌, Bool, cond, List, [], ◌∷◌, ◌++◌, length, map, get_or, refl, sym, ap, subst, ◌∙◌, arith, append_assoc, length-append}
-use Rattle.std.specs.Prelude.{All, sum_by}
+use Rattle.std.specs.Prelude.{All, sum_by, slice_index, decimal}
 use Rattle.std.proofs.lemmas.List.{length-map}
 use Rattle.std.proofs.lemmas.List.Sums.{sum_by-cons}
 use Rattle.project_net.proofs.Appended.{length-numbers}
 use Rattle.std.specs.List.{AllByRecursion}
 use Rattle.std.proofs.lemmas.Bool.{ne_eqb}
 use Rattle.std.proofs.lemmas.List.Elements.{All-head, All-tail, recursion_from_All}
-use Rattle.rcpsp_model.specs.Project.{Project, Activity, IsActivityWithinLimits, IsModeWithinLimits, IsWithinLimits, no_activity, no_mode, job_count, jobs, modes_of, mode_of, successors_of, numbers_from}
+use Rattle.rcpsp_model.specs.Project.{Project, Activity, IsActivityWithinLimits, IsModeWithinLimits, IsRowWithinLimits, IsWithinLimits, no_activity, no_mode, job_count, jobs, modes_of, mode_of, successors_of, numbers_from}
+use Rattle.rcpsp_model.specs.declared.parts.CalRow.{CalRow}
 use Rattle.rcpsp_model.specs.declared.parts.Mode.{Mode}
-use Rattle.project_net.specs.Canonical.{row, precedence_row, mode_numbers, mode_row, mode_lines, all_mode_lines}
+use Rattle.project_net.specs.Canonical.{row, precedence_row, mode_numbers, mode_row, mode_lines, all_mode_lines, calendar_row}
 use Rattle.psplib_layout.specs.Precedence.{row_numbers, rows_numbers}
 use Rattle.psplib_layout.specs.Requests.{modes_numbers, all_modes_numbers}
+use Rattle.psplib_layout.specs.Calendar.{cal_row_numbers, cal_rows_numbers, calendar_numbers}
 use Rattle.psplib_canonical.proofs.Rows.{IsSmall, IsRow, AreLines, no_lines, row_line, lines_behind, small-append}
 use Rattle.psplib_canonical.proofs.ContentOf.{row_of, rows_of, modes_of_all, few_successors}
 
@@ -177,3 +179,27 @@ module _ (P : Project) (limits : IsWithinLimits P) where
   pub modes-count : length (all_mode_lines P (jobs P)) ≡ sum_by (λ a. length a.modes) P.activities
   unfolding job_count
   modes-count = lines-count [] P.activities 1 refl refl
+
+  -- ---- the calendar part
+
+  row_of_calendar : (r : CalRow) → IsRowWithinLimits P.capacities r → IsRow (cal_row_numbers r)
+  row_of_calendar r w =
+      let R = limits.few_renewables in
+      let some = w.some_resource in let few = w.few_resources in
+      let period = w.some_period in let until = w.until in
+      let capacity = w.capacity in
+      let most : slice_index P.capacities (r.resource - 1) ≤ 1000000 = limits.capacities (r.resource - 1) 0 (omega arith) in
+      record { some = omega arith; few = omega arith; small = (omega arith, (omega arith, (omega arith, (omega arith, tt)))) }
+
+  rows_of_calendar : (rows : List CalRow) → All (IsRowWithinLimits P.capacities) rows → AreLines (map (λ r. row (calendar_row r)) rows) (cal_rows_numbers rows)
+  rows_of_calendar [] w = no_lines
+  rows_of_calendar (r ∷ rows) w =
+      row_line (cal_row_numbers r) (map (λ q. row (calendar_row q)) rows) (cal_rows_numbers rows)
+      (row_of_calendar r (All-head (IsRowWithinLimits P.capacities) r rows w)) (rows_of_calendar rows (All-tail (IsRowWithinLimits P.capacities) r rows w))
+
+  -- the number of rows, and the rows
+  pub calendar_rows : AreLines (decimal (length P.calendar) ∷ map (λ r. row (calendar_row r)) P.calendar) (calendar_numbers P.calendar)
+  calendar_rows =
+      let few = limits.few_rows in
+      row_line (length P.calendar ∷ []) (map (λ r. row (calendar_row r)) P.calendar) (cal_rows_numbers P.calendar)
+      (record { some = omega arith; few = omega arith; small = (omega arith, tt) }) (rows_of_calendar P.calendar limits.rows)

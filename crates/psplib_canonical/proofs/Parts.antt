@@ -1,9 +1,9 @@
--- The three parts of a canonical text, and the layout as a whole.
-use Rattle.std.proofs.Common.{◌≡◌, ℕ, zero, suc, ◌+◌, ◌≤◌, Bool, true, false, cond, eqb, List, [], ◌∷◌, ◌++◌, length, map, codes, refl, sym, ap, subst, ◌∙◌, arith, append_assoc, length-append}
+-- The parts of a canonical text behind its header, and the layout as a whole.
+use Rattle.std.proofs.Common.{◌≡◌, ℕ, zero, suc, ◌+◌, ◌≤◌, ◌⊎◌, inl, inr, Bool, true, false, cond, eqb, List, [], ◌∷◌, ◌++◌, length, map, codes, refl, sym, ap, subst, ◌∙◌, arith, append_assoc, length-append}
 use Rattle.std.specs.List.{concat, list_all, flat_map}
 use Rattle.std.specs.Fmt.{decimal}
-use Rattle.std.proofs.lemmas.Bool.{and_from}
-use Rattle.std.proofs.lemmas.List.{append-nil}
+use Rattle.std.proofs.lemmas.Bool.{and_from, eqb-true}
+use Rattle.std.proofs.lemmas.List.{append-nil, nil_from_length}
 use Rattle.std.proofs.lemmas.List.Elements.{recursion_from_All}
 use Rattle.std.proofs.lemmas.List.Folds.{list_all-append}
 use Rattle.psplib_lex.specs.Line.{Line, words_of, line_from}
@@ -12,14 +12,15 @@ use Rattle.psplib_layout.specs.Header.{HasTitle}
 use Rattle.psplib_layout.specs.Part.{HasPart}
 use Rattle.psplib_layout.specs.Precedence.{rows_numbers}
 use Rattle.psplib_layout.specs.Requests.{all_modes_numbers}
-use Rattle.psplib_layout.specs.Layout.{ReadsPrecedence, ReadsRequests, ReadsAvailabilities, ReadsLayout, HasAmounts}
+use Rattle.psplib_layout.specs.Calendar.{calendar_numbers}
+use Rattle.psplib_layout.specs.Layout.{ReadsPrecedence, ReadsRequests, ReadsAvailabilities, ReadsCalendar, ReadsLayout, HasAmounts, ListsRows, HasNoCalendar}
 use Rattle.rcpsp_model.specs.Project.{Project, IsWithinLimits, jobs, renewables, nonrenewables, numbers_from}
-use Rattle.project_net.specs.Canonical.{spaced, row, precedence_row, labels, all_labels, all_mode_lines, stars, hyphens, title_lines, resource_lines, information_lines, precedence_lines, requests_lines, amount_lines, availability_lines, canonical_lines}
+use Rattle.project_net.specs.Canonical.{spaced, row, precedence_row, labels, all_labels, all_mode_lines, stars, hyphens, title_lines, resource_lines, information_lines, precedence_lines, requests_lines, amount_lines, availability_lines, calendar_row, calendar_lines, canonical_lines}
 use Rattle.psplib_canonical.proofs.Words.{is_word, words_of-spaced, decimal-word}
 use Rattle.psplib_canonical.proofs.Kept.{keep, kept, kept-none, keep_line, skip}
 use Rattle.psplib_canonical.proofs.Rows.{IsRow, AreLines, no_lines, row_line, part_of, keeps, small-append}
-use Rattle.psplib_canonical.proofs.ContentOf.{header_of, amounts_of, rows_of, modes_of_all, content_of, rows_limits, modes_limits, amounts_limits}
-use Rattle.psplib_canonical.proofs.PartRows.{precedence_rows, requests_rows, small_all}
+use Rattle.psplib_canonical.proofs.ContentOf.{header_of, amounts_of, rows_of, modes_of_all, content_of, rows_limits, modes_limits, amounts_limits, calendar_limits}
+use Rattle.psplib_canonical.proofs.PartRows.{precedence_rows, requests_rows, calendar_rows, small_all}
 use Rattle.psplib_canonical.proofs.HeaderLines.{counts_line, behind_header, reads_header}
 
 stars_rule : keep stars ≡ false
@@ -172,62 +173,106 @@ module _ (P : Project) (limits : IsWithinLimits P) (n : ℕ) where
       subst (λ (ns : List ℕ). AreLines (row (P.capacities ++ P.budgets) ∷ []) ns) (append-nil (P.capacities ++ P.budgets)) (row_line (P.capacities ++ P.budgets) [] [] (amounts_row some) no_lines)
 
   -- the lines behind the title
-  abbrev behind_title : Bool → List (List ℕ)
-  behind_title none = cond none [] (spaced (all_labels P) ∷ row (P.capacities ++ P.budgets) ∷ []) ++ stars ∷ [] ∷ []
+  abbrev behind_title : Bool → List (List ℕ) → List (List ℕ)
+  behind_title none rest = cond none [] (spaced (all_labels P) ∷ row (P.capacities ++ P.budgets) ∷ []) ++ stars ∷ rest
 
-  ended : (m : ℕ) → kept m (stars ∷ [] ∷ []) ≡ []
-  ended m = skip m _ _ _ stars_rule (kept-none (m + 1))
+  -- the line behind the part
+  abbrev behind_amounts : Bool → ℕ
+  behind_amounts none = cond none (n + 1 + 1) (n + 1 + 1 + 1 + 1)
 
-  listed : (none : Bool) → eqb (renewables P + nonrenewables P) 0 ≡ none → HasAmounts none (kept (n + 1) (behind_title none)) (amounts_of P) []
-  listed true e = ended (n + 1)
-  listed false e =
+  listed : (rest : List (List ℕ)) (none : Bool) → eqb (renewables P + nonrenewables P) 0 ≡ none → HasAmounts none (kept (n + 1) (behind_title none rest)) (amounts_of P) (kept (behind_amounts none) rest)
+  listed rest true e = skip (n + 1) _ _ _ stars_rule refl
+  listed rest false e =
       let some : 1 ≤ renewables P + nonrenewables P = some_of (renewables P + nonrenewables P) e in
-      let part = part_of (n + 1 + 1) (row (P.capacities ++ P.budgets) ∷ []) ([] ∷ []) (P.capacities ++ P.budgets) (amounts_line some) in
       record {
         heading = line_from (n + 1) (spaced (all_labels P));
-        behind = kept (n + 1 + 1) (row (P.capacities ++ P.budgets) ∷ stars ∷ [] ∷ []);
+        behind = kept (n + 1 + 1) (row (P.capacities ++ P.budgets) ∷ stars ∷ rest);
         lines_are = keep_line (n + 1) _ _ _ (labels_kept some) refl;
-        part = subst (λ (ls : List Line). HasPart (P.capacities ++ P.budgets) (kept (n + 1 + 1) (row (P.capacities ++ P.budgets) ∷ stars ∷ [] ∷ [])) ls) (kept-none (n + 1 + 1 + 1 + 1)) part;
+        part = part_of (n + 1 + 1) (row (P.capacities ++ P.budgets) ∷ []) rest (P.capacities ++ P.budgets) (amounts_line some);
       }
     where
       some_of : (k : ℕ) → eqb k 0 ≡ false → 1 ≤ k
       some_of zero h = absurd cc
       some_of (suc k) h = omega arith
 
-  availability_are : kept n (availability_lines P ++ [] ∷ []) ≡ line_from n (codes "RESOURCEAVAILABILITIES:") ∷ kept (n + 1) (behind_title (eqb (renewables P + nonrenewables P) 0))
+  availability_are : (rest : List (List ℕ)) → kept n (availability_lines P ++ rest) ≡ line_from n (codes "RESOURCEAVAILABILITIES:") ∷ kept (n + 1) (behind_title (eqb (renewables P + nonrenewables P) 0) rest)
   unfolding availability_lines amount_lines
-  availability_are =
+  availability_are rest =
       keep_line n _ _ _ availability_kept
-      (ap (kept (n + 1)) (append_assoc (cond (eqb (renewables P + nonrenewables P) 0) [] (spaced (all_labels P) ∷ row (P.capacities ++ P.budgets) ∷ [])) (stars ∷ []) ([] ∷ [])))
+      (ap (kept (n + 1)) (append_assoc (cond (eqb (renewables P + nonrenewables P) 0) [] (spaced (all_labels P) ∷ row (P.capacities ++ P.budgets) ∷ [])) (stars ∷ []) rest))
 
-  reads_availabilities : ReadsAvailabilities (header_of P) (kept n (availability_lines P ++ [] ∷ [])) (amounts_of P) []
-  reads_availabilities = record {
+  reads_availabilities : (rest : List (List ℕ)) → ReadsAvailabilities (header_of P) (kept n (availability_lines P ++ rest)) (amounts_of P) (kept (behind_amounts (eqb (renewables P + nonrenewables P) 0)) rest)
+  reads_availabilities rest = record {
     title = line_from n (codes "RESOURCEAVAILABILITIES:");
-    behind = kept (n + 1) (behind_title (eqb (renewables P + nonrenewables P) 0));
-    lines_are = availability_are;
+    behind = kept (n + 1) (behind_title (eqb (renewables P + nonrenewables P) 0) rest);
+    lines_are = availability_are rest;
     title_is = availability_title n;
-    listed = listed (eqb (renewables P + nonrenewables P) 0) refl;
+    listed = listed rest (eqb (renewables P + nonrenewables P) 0) refl;
     limits = amounts_limits P limits;
   }
 
+-- ---- the calendar part
+
+calendar_kept : keep (codes "CALENDAR:") ≡ true
+unfolding words_of
+calendar_kept = refl
+
+calendar_title : (n : ℕ) → HasTitle (codes "CALENDAR:") (line_from n (codes "CALENDAR:"))
+unfolding words_of
+calendar_title n = refl
+
+calendar_heading_kept : keep (codes "resource from to capacity") ≡ true
+unfolding words_of
+calendar_heading_kept = refl
+
+module _ (P : Project) (limits : IsWithinLimits P) (n : ℕ) where
+  -- the number of rows, and the rows
+  abbrev counted : List (List ℕ)
+  counted = decimal (length P.calendar) ∷ map (λ r. row (calendar_row r)) P.calendar
+
+  -- the lines of the part and the end of the text
+  abbrev calendar_or : Bool → List (List ℕ)
+  calendar_or none = cond none [] (codes "CALENDAR:" ∷ codes "resource from to capacity" ∷ (counted ++ stars ∷ [])) ++ [] ∷ []
+
+  listed_rows : (none : Bool) → eqb (length P.calendar) 0 ≡ none → HasNoCalendar (kept n (calendar_or none)) P.calendar ⊎ ListsRows (kept n (calendar_or none)) P.calendar
+  listed_rows true e = inl (kept-none n, nil_from_length P.calendar (eqb-true (length P.calendar) 0 e))
+  listed_rows false e =
+      let part = part_of (n + 1 + 1) counted ([] ∷ []) (calendar_numbers P.calendar) (calendar_rows P limits) in
+      inr (record {
+        title = line_from n (codes "CALENDAR:");
+        heading = line_from (n + 1) (codes "resource from to capacity");
+        behind = kept (n + 1 + 1) (counted ++ stars ∷ [] ∷ []);
+        lines_are = keep_line n _ _ _ calendar_kept (keep_line (n + 1) _ _ _ calendar_heading_kept (ap (kept (n + 1 + 1)) (append_assoc counted (stars ∷ []) ([] ∷ []))));
+        title_is = calendar_title n;
+        part = subst (λ (ls : List Line). HasPart (calendar_numbers P.calendar) (kept (n + 1 + 1) (counted ++ stars ∷ [] ∷ [])) ls) (kept-none (n + 1 + 1 + length counted + 1)) part;
+      })
+
+  reads_calendar : ReadsCalendar P.capacities (kept n (calendar_lines P ++ [] ∷ [])) P.calendar
+  unfolding calendar_lines
+  reads_calendar = record { listed = listed_rows (eqb (length P.calendar) 0) refl; limits = calendar_limits P limits }
+
 -- ---- the whole layout
 
-regroup : (a b c d e f g : List (List ℕ)) → (a ++ (b ++ (c ++ (d ++ (e ++ f))))) ++ g ≡ a ++ (b ++ (c ++ (d ++ (e ++ (f ++ g)))))
-regroup a b c d e f g = simp append_assoc
+regroup : (a b c d e f g h : List (List ℕ)) → (a ++ (b ++ (c ++ (d ++ (e ++ (f ++ g)))))) ++ h ≡ a ++ (b ++ (c ++ (d ++ (e ++ (f ++ (g ++ h))))))
+regroup a b c d e f g h = simp append_assoc
 
 pub reads_layout : (P : Project) → IsWithinLimits P → ReadsLayout (kept 1 (canonical_lines P ++ [] ∷ [])) (content_of P)
 unfolding canonical_lines
 reads_layout P w =
-    let behind : List (List ℕ) = availability_lines P ++ [] ∷ [] in
+    let last : List (List ℕ) = calendar_lines P ++ [] ∷ [] in
+    let behind : List (List ℕ) = availability_lines P ++ last in
     let m : ℕ = behind_rows P w in
     let k : ℕ = behind_modes P w m in
-    let whole = regroup (title_lines P) (resource_lines P) (information_lines P) (precedence_lines P) (requests_lines P) (availability_lines P) ([] ∷ []) in
+    let q : ℕ = behind_amounts P w k (eqb (renewables P + nonrenewables P) 0) in
+    let whole = regroup (title_lines P) (resource_lines P) (information_lines P) (precedence_lines P) (requests_lines P) (availability_lines P) (calendar_lines P) ([] ∷ []) in
     subst (λ (ls : List (List ℕ)). ReadsLayout (kept 1 ls) (content_of P)) (sym whole) (record {
       behind_header = behind_header P (precedence_lines P ++ (requests_lines P ++ behind));
       behind_precedence = kept m (requests_lines P ++ behind);
       behind_requests = kept k behind;
+      behind_availabilities = kept q last;
       header = reads_header P w (precedence_lines P ++ (requests_lines P ++ behind));
       precedence = reads_precedence P w (requests_lines P ++ behind);
       requests = reads_requests P w m behind;
-      availabilities = reads_availabilities P w k;
+      availabilities = reads_availabilities P w k last;
+      calendar = reads_calendar P w q;
     })

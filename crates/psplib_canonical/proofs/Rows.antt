@@ -9,10 +9,10 @@ use Rattle.std.proofs.lemmas.List.Concat.{flat_map-cons}
 use Rattle.std.proofs.lemmas.Grind.{flat_map-append}
 use Rattle.std.proofs.lemmas.List.Folds.{list_all-append}
 use Rattle.psplib_lex.specs.Line.{Line, is_blank, is_line_end, is_kept, words_of, line_from, numbered}
-use Rattle.psplib_lex.specs.Number.{number_of}
+use Rattle.psplib_lex.specs.Number.{word_value}
 use Rattle.psplib_layout.specs.Part.{words_in, Spells, HasPart}
 use Rattle.project_net.specs.Canonical.{spaced, row, stars}
-use Rattle.psplib_canonical.proofs.Words.{is_plain, is_word, words_of-spaced, number_of-decimal, decimal-word, Begins, decimal-begins}
+use Rattle.psplib_canonical.proofs.Words.{is_plain, is_word, words_of-spaced, word_value-decimal, decimal-word, Begins, decimal-begins}
 use Rattle.psplib_canonical.proofs.Kept.{is_whole, is_fit, keep, kept, skip, steps}
 
 -- ---- words in a line
@@ -88,7 +88,7 @@ small-append (x ∷ xs) ys h k = (h.0, small-append xs ys h.1 k)
 
 spelled : (numbers : List ℕ) → AllByRecursion IsSmall numbers → Spells (map decimal numbers) numbers
 spelled [] h = refl
-spelled (n ∷ ns) h = rw (number_of-decimal n h.0, spelled ns h.1) refl
+spelled (n ∷ ns) h = rw (word_value-decimal n h.0, spelled ns h.1) refl
 
 row_words : (numbers : List ℕ) → AllByRecursion IsSmall numbers → words_of (row numbers) ≡ map decimal numbers
 row_words numbers h = words_of-spaced (map decimal numbers) (decimal_words numbers h)
@@ -128,15 +128,15 @@ no_lines = record { kept = refl; fit = refl; spelled = λ n. refl }
 
 spelled-cons : (n : ℕ) (line : List ℕ) (lines : List (List ℕ)) (xs ys : List ℕ) → Spells (words_of line) xs → Spells (words_in (numbered (n + 1) lines)) ys → Spells (words_in (numbered n (line ∷ lines))) (xs ++ ys)
 spelled-cons n line lines xs ys h k =
-    ap (map number_of) (flat_map-cons (λ (l : Line). l.words) (line_from n line) (numbered (n + 1) lines))
-    ∙ map-append number_of (words_of line) (words_in (numbered (n + 1) lines))
+    ap (map word_value) (flat_map-cons (λ (l : Line). l.words) (line_from n line) (numbered (n + 1) lines))
+    ∙ map-append word_value (words_of line) (words_in (numbered (n + 1) lines))
     ∙ rw (h, k) (sym (map-append Some xs ys))
 
 pub row_line : (numbers : List ℕ) (lines : List (List ℕ)) (more : List ℕ) → IsRow numbers → AreLines lines more → AreLines (row numbers ∷ lines) (numbers ++ more)
 row_line numbers lines more h k = record {
   kept = and_from (keep (row numbers)) (list_all keep lines) (row_kept numbers h) k.kept;
   fit = and_from (is_fit (row numbers)) (list_all is_fit lines) (row_fit numbers h) k.fit;
-  spelled = λ n. spelled-cons n (row numbers) lines numbers more (ap (map number_of) (row_words numbers h.small) ∙ spelled numbers h.small) (k.spelled (n + 1));
+  spelled = λ n. spelled-cons n (row numbers) lines numbers more (ap (map word_value) (row_words numbers h.small) ∙ spelled numbers h.small) (k.spelled (n + 1));
 }
 
 numbered-append : (n : ℕ) (xs ys : List (List ℕ)) → numbered n (xs ++ ys) ≡ numbered n xs ++ numbered (n + length xs) ys
@@ -147,9 +147,9 @@ numbered-append n (x ∷ xs) ys =
 
 words_in-append : (n : ℕ) (xs ys : List (List ℕ)) (ns more : List ℕ) → Spells (words_in (numbered n xs)) ns → ((m : ℕ) → Spells (words_in (numbered m ys)) more) → Spells (words_in (numbered n (xs ++ ys))) (ns ++ more)
 words_in-append n xs ys ns more h k =
-    ap (λ (ls : List Line). map number_of (words_in ls)) (numbered-append n xs ys)
-    ∙ ap (map number_of) (flat_map-append (λ (l : Line). l.words) (numbered n xs) (numbered (n + length xs) ys))
-    ∙ map-append number_of (words_in (numbered n xs)) (words_in (numbered (n + length xs) ys))
+    ap (λ (ls : List Line). map word_value (words_in ls)) (numbered-append n xs ys)
+    ∙ ap (map word_value) (flat_map-append (λ (l : Line). l.words) (numbered n xs) (numbered (n + length xs) ys))
+    ∙ map-append word_value (words_in (numbered n xs)) (words_in (numbered (n + length xs) ys))
     ∙ rw (h, k (n + length xs)) (sym (map-append Some ns more))
 
 pub lines_behind : (xs ys : List (List ℕ)) (ns more : List ℕ) → AreLines xs ns → AreLines ys more → AreLines (xs ++ ys) (ns ++ more)

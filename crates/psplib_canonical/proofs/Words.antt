@@ -9,7 +9,7 @@ use Rattle.std.proofs.lemmas.Str.Parse.{IsDigitsTest, FoldsDigits, IsNumeralMode
 use Rattle.std.proofs.lemmas.List.Splits.{slice_split_none, length-slice_split}
 use Rattle.std.proofs.lemmas.List.Elements.{All-from_recursion, filter-append}
 use Rattle.psplib_lex.specs.Line.{is_blank, is_line_end, has_bytes, words_of}
-use Rattle.psplib_lex.specs.Number.{is_digit, number_of}
+use Rattle.psplib_lex.specs.Number.{is_digit, word_value}
 use Rattle.project_net.specs.Canonical.{spaced}
 
 -- ---- cutting at a blank
@@ -83,9 +83,9 @@ own_fold = search rules
 own : IsNumeralModel (λ word. list_all is_digit word ≡ true) (λ word. fold with_digit 0 word)
 own = numerals_by_fold _ own_test (λ n word. fold with_digit n word) own_fold
 
-pub number_of-decimal : (n : ℕ) → n < 2 ^ 64 → number_of (decimal n) ≡ Some n
-unfolding number_of
-number_of-decimal n h =
+pub word_value-decimal : (n : ℕ) → n < 2 ^ 64 → word_value (decimal n) ≡ Some n
+unfolding word_value
+word_value-decimal n h =
     let some : eqb (length (decimal n)) 0 ≡ false = ne_eqb _ _ (λ e. omega (arith, decimal_nonempty n h)) in
     rw (some, digits_decimal own n h) (ap Some (digits_value-decimal own n h))
 

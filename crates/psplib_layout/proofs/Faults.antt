@@ -3,7 +3,7 @@ use Rattle.std.proofs.Common.{◌≡◌, ℕ, List, [], ◌∷◌, Some, Result,
 use Rattle.psplib_lex.specs.Line.{Line}
 use Rattle.psplib_layout.specs.declared.fault.Refusal.{Refusal}
 use Rattle.psplib_layout.specs.declared.rule.Rule.{Rule}
-use Rattle.psplib_lex.specs.Number.{number_of}
+use Rattle.psplib_lex.specs.Number.{word_value}
 use Rattle.psplib_layout.specs.Rule.{Keeps}
 use Rattle.psplib_layout.specs.Wanted.{Wanted, give, number}
 use Rattle.psplib_layout.specs.Reading.{◌>>=◌, next_word, judged, number_in, read_wanted}
@@ -13,19 +13,19 @@ use Rattle.psplib_layout.proofs.Steps.{bind_ok}
 use Rattle.psplib_layout.proofs.Taking.{judged_some, keeps_judged}
 
 -- what number_in read
-record Taken (end : ℕ) (rule : Rule) (lines : List Line) (x : ℕ × List Line) : Type 0 where
-  line : ℕ
-  word : List ℕ
-  next : next_word end lines ≡ Ok (record { line = line; bytes = word }, x.1)
-  is : number_of word ≡ Some x.0
-  keeps : Keeps rule x.0
+pub record Taken (end : ℕ) (rule : Rule) (lines : List Line) (x : ℕ × List Line) : Type 0 where
+  pub line : ℕ
+  pub word : List ℕ
+  pub next : next_word end lines ≡ Ok (record { line = line; bytes = word }, x.1)
+  pub is : word_value word ≡ Some x.0
+  pub keeps : Keeps rule x.0
 
-number_taken : (end : ℕ) (rule : Rule) (lines : List Line) (x : ℕ × List Line) → number_in end rule lines ≡ Ok x → Taken end rule lines x
+pub number_taken : (end : ℕ) (rule : Rule) (lines : List Line) (x : ℕ × List Line) → number_in end rule lines ≡ Ok x → Taken end rule lines x
 unfolding number_in
 number_taken end rule lines x e =
-    let b = bind_ok (next_word end lines) (λ w. judged rule w.0.line (number_of w.0.bytes) >>= λ n. Ok (n, w.1)) x e in
-    let c = bind_ok (judged rule b.0.0.line (number_of b.0.0.bytes)) (λ n. Ok (n, b.0.1)) x b.2 in
-    let k = judged_some rule b.0.0.line c.0 (number_of b.0.0.bytes) c.1 in
+    let b = bind_ok (next_word end lines) (λ w. judged rule w.0.line (word_value w.0.bytes) >>= λ n. Ok (n, w.1)) x e in
+    let c = bind_ok (judged rule b.0.0.line (word_value b.0.0.bytes)) (λ n. Ok (n, b.0.1)) x b.2 in
+    let k = judged_some rule b.0.0.line c.0 (word_value b.0.0.bytes) c.1 in
     let n-is : c.0 ≡ x.0 = cc in
     let rest-is : b.0.1 ≡ x.1 = cc in
     record { line = b.0.0.line; word = b.0.0.bytes; next = b.1 ∙ ap (λ (ls : List Line). Ok (b.0.0, ls)) rest-is; is = k.0 ∙ ap Some n-is; keeps = subst (Keeps rule) n-is k.1 }
@@ -60,7 +60,7 @@ fault_after end w later lines left [] (u ∷ us) fault l s t e = absurd cc
 fault_after end w later lines left (n ∷ ns) [] fault l s t e = absurd cc
 fault_after end (give x) later lines left (n ∷ ns) (u ∷ us) fault l s t e = absurd l
 fault_after end (number rule next) later lines left (n ∷ ns) (u ∷ us) fault l s t e =
-    let first : number_of u ≡ Some n = cc in
+    let first : word_value u ≡ Some n = cc in
     let others : Spells us ns = cc in
     rw (t.2, first, keeps_judged rule t.0 n l.0) (fault_after end (next n) later t.1 left ns us fault l.1 others t.3 e)
 

@@ -1,24 +1,28 @@
 -- Each part, and the whole layout, is read exactly where the lines have it.
-use Rattle.std.proofs.Common.{◌≡◌, ℕ, ◌+◌, ◌≤◌, Bool, true, false, cond, List, [], ◌∷◌, ◌++◌, length, map, All, Ok, codes, refl, sym, ap, subst, ◌∙◌, arith, length-append}
+use Rattle.std.proofs.Common.{◌≡◌, ℕ, ◌+◌, ◌≤◌, ◌⊎◌, inl, inr, Bool, true, false, cond, List, [], ◌∷◌, ◌++◌, length, map, All, Ok, codes, refl, sym, ap, subst, ◌∙◌, arith, length-append}
 use Rattle.std.proofs.lemmas.Bool.Decides.{nat_tests}
 use Rattle.std.proofs.lemmas.List.{nil_from_length}
 use Rattle.std.proofs.lemmas.List.Elements.{All-from_recursion, All-weaker}
+use Rattle.rcpsp_model.specs.declared.parts.CalRow.{CalRow}
 use Rattle.rcpsp_model.specs.declared.parts.Mode.{Mode}
 use Rattle.psplib_lex.specs.Line.{Line}
-use Rattle.psplib_layout.specs.Reading.{◌>>=◌}
+use Rattle.psplib_layout.specs.declared.fault.Fault.TheVariants.{WordsLeft}
+use Rattle.psplib_layout.specs.Reading.{◌>>=◌, refusal}
 use Rattle.psplib_layout.specs.Title.{has_title, titled, skipped_to, any_line, no_more}
 use Rattle.psplib_layout.specs.Part.{HasPart, part_in, HaveWords}
 use Rattle.psplib_layout.specs.Header.{Header, HasTitle, NoneHasTitle, header_in}
 use Rattle.psplib_layout.specs.Precedence.{JobRow, rows_numbers, IsRow, all_rows}
 use Rattle.psplib_layout.specs.Requests.{all_modes_numbers, all_modes}
 use Rattle.psplib_layout.specs.Availabilities.{Amounts, AreAmounts, all_amounts}
-use Rattle.psplib_layout.specs.Layout.{Content, ReadsPrecedence, ReadsRequests, ReadsAvailabilities, ReadsLayout, ListsAmounts, HasAmounts, has_no_resource, mode_counts, no_amounts, rows_begin_in, precedence_in, requests_in, listed_in, availabilities_in, layout_in}
+use Rattle.psplib_layout.specs.Calendar.{calendar_numbers, AreCalRows, whole_calendar}
+use Rattle.psplib_layout.specs.Layout.{Content, ReadsPrecedence, ReadsRequests, ReadsAvailabilities, ReadsLayout, ListsAmounts, HasAmounts, ListsRows, HasNoCalendar, ReadsCalendar, has_no_resource, mode_counts, no_amounts, rows_begin_in, precedence_in, requests_in, listed_in, availabilities_in, listed_rows_in, calendar_in, layout_in}
 use Rattle.psplib_layout.proofs.Steps.{bind_ok, ok_is}
 use Rattle.psplib_layout.proofs.Titles.{titled_found, skipped_found, skipped_again, any_found, nothing_left}
 use Rattle.psplib_layout.proofs.Whole.{part_found, part_again, words_back}
 use Rattle.psplib_layout.proofs.RowLemmas.{rows_found, rows_again}
 use Rattle.psplib_layout.proofs.RequestLemmas.{all_found, all_again}
 use Rattle.psplib_layout.proofs.AmountLemmas.{amounts_found, amounts_again}
+use Rattle.psplib_layout.proofs.CalendarLemmas.{calendar_found, calendar_again}
 use Rattle.psplib_layout.proofs.HeaderLemmas.{header_found, header_again}
 
 -- ---- the precedence part
@@ -204,29 +208,88 @@ availabilities_again end header lines rest amounts words h =
     let all = subst HaveWords h.lines_are words in
     rw (h.lines_are, h.title_is) (listed_or_none end header h.behind rest amounts all.1 h.limits (has_no_resource header) refl h.listed)
 
+-- ---- the calendar part
+
+no_calendar : (capacities : List ℕ) (lines : List Line) → lines ≡ [] → ReadsCalendar capacities lines []
+no_calendar capacities lines none = record { listed = inl (none, refl); limits = record { few_rows = omega arith; each = tt; in_order = tt } }
+
+-- what stands behind the title
+listed_rows_found : (end : ℕ) (capacities : List ℕ) (title : Line) (lines : List Line) (rows : List CalRow) → has_title (codes "CALENDAR:") title ≡ true → listed_rows_in end capacities lines ≡ Ok rows → ReadsCalendar capacities (title ∷ lines) rows
+unfolding listed_rows_in
+listed_rows_found end capacities title lines rows t e =
+    let wanted = whole_calendar capacities in
+    let a = bind_ok (any_line end lines) (λ h. part_in end wanted h >>= λ r. no_more r.1 >>= λ n. Ok r.0) rows e in
+    let b = bind_ok (part_in end wanted a.0) (λ r. no_more r.1 >>= λ n. Ok r.0) rows a.2 in
+    let c = bind_ok (no_more b.0.1) (λ n. Ok b.0.0) rows b.2 in
+    let h = any_found end lines a.0 a.1 in
+    let p = part_found end wanted a.0 b.0.0 b.0.1 b.1 in
+    let f = calendar_found capacities p.numbers b.0.0 p.stands in
+    let none : b.0.1 ≡ [] = nothing_left b.0.1 c.0 c.1 in
+    let found : ReadsCalendar capacities (title ∷ lines) b.0.0 = record {
+      listed = inr (record {
+        title = title;
+        heading = h.line;
+        behind = a.0;
+        lines_are = ap (λ (ls : List Line). title ∷ ls) h.lines_are;
+        title_is = t;
+        part = subst (λ (ns : List ℕ). HasPart ns a.0 []) f.same (subst (λ (ls : List Line). HasPart p.numbers a.0 ls) none p.part);
+      });
+      limits = f.limits;
+    } in
+    subst (ReadsCalendar capacities (title ∷ lines)) (ok_is b.0.0 rows c.2) found
+
+pub calendar_found_in : (end : ℕ) (capacities : List ℕ) (lines : List Line) (rows : List CalRow) → calendar_in end capacities lines ≡ Ok rows → ReadsCalendar capacities lines rows
+calendar_found_in end capacities [] rows e = subst (ReadsCalendar capacities []) (ok_is [] rows e) (no_calendar capacities [] refl)
+calendar_found_in end capacities (line ∷ more) rows e = go (has_title (codes "CALENDAR:") line) refl e
+  where
+    go : (t : Bool) → has_title (codes "CALENDAR:") line ≡ t → cond t (listed_rows_in end capacities more) (refusal WordsLeft line.number) ≡ Ok rows → ReadsCalendar capacities (line ∷ more) rows
+    go true t f = listed_rows_found end capacities line more rows t f
+    go false t f = absurd cc
+
+listed_rows_again : (end : ℕ) (capacities : List ℕ) (lines : List Line) (rows : List CalRow) → HaveWords lines → AreCalRows capacities rows → ListsRows lines rows → calendar_in end capacities lines ≡ Ok rows
+unfolding listed_rows_in
+listed_rows_again end capacities lines rows words limits h =
+    let all = subst HaveWords h.lines_are words in
+    let numbers : 1 ≤ length (calendar_numbers rows) = omega arith in
+    let stands = calendar_again capacities rows limits in
+    rw (h.lines_are, h.title_is, part_again end (whole_calendar capacities) h.behind rows [] (calendar_numbers rows) numbers all.1.1 h.part stands) refl
+
+pub calendar_again_in : (end : ℕ) (capacities : List ℕ) (lines : List Line) (rows : List CalRow) → HaveWords lines → ReadsCalendar capacities lines rows → calendar_in end capacities lines ≡ Ok rows
+calendar_again_in end capacities lines rows words h = go h.listed
+  where
+    go : HasNoCalendar lines rows ⊎ ListsRows lines rows → calendar_in end capacities lines ≡ Ok rows
+    go (inl none) = rw (none.0, none.1) refl
+    go (inr listed) = listed_rows_again end capacities lines rows words h.limits listed
+
 -- ---- the whole layout
 
 part_rest : (numbers : List ℕ) (lines rest : List Line) → HasPart numbers lines rest → HaveWords lines → HaveWords rest
 part_rest numbers lines rest p words = words_back p.part rest (subst HaveWords p.lines_are words)
 
+-- the lines behind the availabilities have words too
+behind_amounts : (b : Bool) (lines : List Line) (amounts : Amounts) (rest : List Line) → HasAmounts b lines amounts rest → HaveWords lines → HaveWords rest
+behind_amounts true lines amounts rest same words = subst HaveWords same words
+behind_amounts false lines amounts rest listed words = part_rest _ listed.behind rest listed.part (subst HaveWords listed.lines_are words).1
+
 pub layout_found : (end : ℕ) (lines : List Line) (content : Content) → layout_in end lines ≡ Ok content → ReadsLayout lines content
 unfolding layout_in
 layout_found end lines content e =
-    let a = bind_ok (header_in end lines) (λ h. precedence_in end h.0 h.1 >>= λ r. requests_in end h.0 r.0 r.1 >>= λ m. availabilities_in end h.0 m.1 >>= λ x. no_more x.1 >>= λ n. Ok (record { header = h.0; rows = r.0; modes = m.0; amounts = x.0 })) content e in
-    let b = bind_ok (precedence_in end a.0.0 a.0.1) (λ r. requests_in end a.0.0 r.0 r.1 >>= λ m. availabilities_in end a.0.0 m.1 >>= λ x. no_more x.1 >>= λ n. Ok (record { header = a.0.0; rows = r.0; modes = m.0; amounts = x.0 })) content a.2 in
-    let c = bind_ok (requests_in end a.0.0 b.0.0 b.0.1) (λ m. availabilities_in end a.0.0 m.1 >>= λ x. no_more x.1 >>= λ n. Ok (record { header = a.0.0; rows = b.0.0; modes = m.0; amounts = x.0 })) content b.2 in
-    let d = bind_ok (availabilities_in end a.0.0 c.0.1) (λ x. no_more x.1 >>= λ n. Ok (record { header = a.0.0; rows = b.0.0; modes = c.0.0; amounts = x.0 })) content c.2 in
-    let f = bind_ok (no_more d.0.1) (λ n. Ok (record { header = a.0.0; rows = b.0.0; modes = c.0.0; amounts = d.0.0 })) content d.2 in
-    let read : Content = record { header = a.0.0; rows = b.0.0; modes = c.0.0; amounts = d.0.0 } in
-    let none : d.0.1 ≡ [] = nothing_left d.0.1 f.0 f.1 in
+    let a = bind_ok (header_in end lines) (λ h. precedence_in end h.0 h.1 >>= λ r. requests_in end h.0 r.0 r.1 >>= λ m. availabilities_in end h.0 m.1 >>= λ x. calendar_in end x.0.capacities x.1 >>= λ k. Ok (record { header = h.0; rows = r.0; modes = m.0; amounts = x.0; calendar = k })) content e in
+    let b = bind_ok (precedence_in end a.0.0 a.0.1) (λ r. requests_in end a.0.0 r.0 r.1 >>= λ m. availabilities_in end a.0.0 m.1 >>= λ x. calendar_in end x.0.capacities x.1 >>= λ k. Ok (record { header = a.0.0; rows = r.0; modes = m.0; amounts = x.0; calendar = k })) content a.2 in
+    let c = bind_ok (requests_in end a.0.0 b.0.0 b.0.1) (λ m. availabilities_in end a.0.0 m.1 >>= λ x. calendar_in end x.0.capacities x.1 >>= λ k. Ok (record { header = a.0.0; rows = b.0.0; modes = m.0; amounts = x.0; calendar = k })) content b.2 in
+    let d = bind_ok (availabilities_in end a.0.0 c.0.1) (λ x. calendar_in end x.0.capacities x.1 >>= λ k. Ok (record { header = a.0.0; rows = b.0.0; modes = c.0.0; amounts = x.0; calendar = k })) content c.2 in
+    let f = bind_ok (calendar_in end d.0.0.capacities d.0.1) (λ k. Ok (record { header = a.0.0; rows = b.0.0; modes = c.0.0; amounts = d.0.0; calendar = k })) content d.2 in
+    let read : Content = record { header = a.0.0; rows = b.0.0; modes = c.0.0; amounts = d.0.0; calendar = f.0 } in
     let found : ReadsLayout lines read = record {
       behind_header = a.0.1;
       behind_precedence = b.0.1;
       behind_requests = c.0.1;
+      behind_availabilities = d.0.1;
       header = header_found end lines a.0.1 a.0.0 a.1;
       precedence = precedence_found end a.0.0 a.0.1 b.0.1 b.0.0 b.1;
       requests = requests_found end a.0.0 b.0.0 b.0.1 c.0.1 c.0.0 c.1;
-      availabilities = subst (ReadsAvailabilities a.0.0 c.0.1 d.0.0) none (availabilities_found end a.0.0 c.0.1 d.0.1 d.0.0 d.1);
+      availabilities = availabilities_found end a.0.0 c.0.1 d.0.1 d.0.0 d.1;
+      calendar = calendar_found_in end d.0.0.capacities d.0.1 f.0 f.1;
     } in
     subst (ReadsLayout lines) (ok_is read content f.2) found
 
@@ -239,8 +302,10 @@ layout_again end lines content words h =
     let w2 : HaveWords h.behind_precedence = part_rest _ p.behind h.behind_precedence p.part (words_back p.unread _ (subst HaveWords p.lines_are w1)).1.1 in
     let r = h.requests in
     let w3 : HaveWords h.behind_requests = part_rest _ r.behind h.behind_requests r.part (subst HaveWords r.lines_are w2).1.1 in
+    let a = h.availabilities in
+    let w4 : HaveWords h.behind_availabilities = behind_amounts (has_no_resource content.header) a.behind content.amounts h.behind_availabilities a.listed (subst HaveWords a.lines_are w3).1 in
     let some : 1 ≤ length content.rows = omega (arith, p.limits.count, e.some_job) in
-    rw (header_again end lines h.behind_header content.header e, precedence_again end content.header h.behind_header h.behind_precedence content.rows e.some_job w1 p, requests_again end content.header content.rows h.behind_precedence h.behind_requests content.modes some w2 r, availabilities_again end content.header h.behind_requests [] content.amounts w3 h.availabilities) refl
+    rw (header_again end lines h.behind_header content.header e, precedence_again end content.header h.behind_header h.behind_precedence content.rows e.some_job w1 p, requests_again end content.header content.rows h.behind_precedence h.behind_requests content.modes some w2 r, availabilities_again end content.header h.behind_requests h.behind_availabilities content.amounts w3 a, calendar_again_in end content.amounts.capacities h.behind_availabilities content.calendar w4 h.calendar) refl
 
 -- ---- limits of what was read
 
@@ -250,3 +315,9 @@ few_rows end header lines rest rows few e = omega (arith, (precedence_found end 
 pub few_modes : (end : ℕ) (header : Header) (lines rest : List Line) (rows : List JobRow) → precedence_in end header lines ≡ Ok (rows, rest) → All (λ row. row.modes ≤ 16) rows
 few_modes end header lines rest rows e =
     All-weaker (IsRow header.jobs) (λ (row : JobRow). row.modes ≤ 16) (λ row limits. limits.few_modes) rows (All-from_recursion (IsRow header.jobs) rows (precedence_found end header lines rest rows e).limits.each)
+
+pub few_capacities : (end : ℕ) (header : Header) (lines rest : List Line) (amounts : Amounts) → header.renewables ≤ 16 → availabilities_in end header lines ≡ Ok (amounts, rest) → length amounts.capacities ≤ 16
+few_capacities end header lines rest amounts few e = let count = (availabilities_found end header lines rest amounts e).limits.all_capacities in omega arith
+
+pub small_capacities : (end : ℕ) (header : Header) (lines rest : List Line) (amounts : Amounts) → availabilities_in end header lines ≡ Ok (amounts, rest) → All (λ c. c ≤ 1000000) amounts.capacities
+small_capacities end header lines rest amounts e = All-from_recursion (λ c. c ≤ 1000000) amounts.capacities (availabilities_found end header lines rest amounts e).limits.capacities

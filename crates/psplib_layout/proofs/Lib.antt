@@ -11,10 +11,12 @@ pub mod Titles
 pub mod HeaderLemmas
 pub mod RequestLemmas
 pub mod AmountLemmas
+pub mod CalendarLemmas
 pub mod LayoutLemmas
 pub mod TextLemmas
 pub mod Loops
 pub mod RowSteps
 pub mod ModeSteps
+pub mod CalendarSteps
 pub mod JobLines
 pub mod Limits

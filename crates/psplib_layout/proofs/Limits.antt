@@ -6,7 +6,7 @@ use Rattle.std.proofs.lemmas.List.Elements.{All-from_recursion, All-weaker}
 use Rattle.std.proofs.lemmas.List.Sums.{sum_by-cons}
 use Rattle.psplib_lex.specs.Line.{Line, lines_of}
 use Rattle.rcpsp_model.specs.declared.parts.Mode.{Mode}
-use Rattle.rcpsp_model.specs.Project.{Activity, IsAscending, IsActivityWithinLimits, IsModeWithinLimits, IsWithinLimits, numbers_from, job_count}
+use Rattle.rcpsp_model.specs.Project.{Activity, IsAscending, IsActivityWithinLimits, IsModeWithinLimits, IsRowWithinLimits, IsWithinLimits, numbers_from, job_count}
 use Rattle.psplib_layout.specs.declared.fault.ReadError.{ReadError}
 use Rattle.psplib_layout.specs.Place.{Gives}
 use Rattle.psplib_layout.specs.Precedence.{JobRow, IsRow, mode_total}
@@ -24,6 +24,7 @@ limits_of lines content h = record {
   rows = h.precedence.limits;
   modes = h.requests.limits;
   amounts = h.availabilities.limits;
+  calendar = h.calendar.limits;
 }
 
 pub read_limits : (end : ℕ) (lines : List Line) (r : Result Content ReadError) → Gives (λ x. x) r (layout_in end lines) → IfOk r IsWithinContentLimits
@@ -114,6 +115,9 @@ project_limits content h =
       activities = subst (λ (n : ℕ). All (IsActivityWithinLimits n (length content.amounts.capacities) (length content.amounts.budgets)) activities) (sym count) (rw (h.amounts.all_capacities, h.amounts.all_budgets) each);
       capacities = All-from_recursion (λ n. n ≤ 1000000) content.amounts.capacities h.amounts.capacities;
       budgets = All-from_recursion (λ n. n ≤ 1000000) content.amounts.budgets h.amounts.budgets;
+      few_rows = h.calendar.few_rows;
+      rows = All-from_recursion (IsRowWithinLimits content.amounts.capacities) content.calendar h.calendar.each;
+      calendar = h.calendar.in_order;
     }
 
 pub few_successors : (content : Content) → IsWithinContentLimits content → All (λ row. length row.successors ≤ 128) content.rows

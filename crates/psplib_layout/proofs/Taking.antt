@@ -4,10 +4,10 @@ use Rattle.std.proofs.lemmas.Bool.{ltb-false, le-ltb}
 use Rattle.psplib_lex.specs.Line.{Line}
 use Rattle.psplib_layout.specs.declared.fault.Refusal.{Refusal}
 use Rattle.psplib_layout.specs.declared.rule.Rule.{Rule}
-use Rattle.psplib_lex.specs.Number.{number_of}
+use Rattle.psplib_lex.specs.Number.{word_value}
 use Rattle.psplib_layout.specs.FirstFault.{Takes}
 use Rattle.psplib_layout.proofs.Steps.{bind_ok, ok_is}
-use Rattle.psplib_layout.specs.Rule.{Keeps}
+use Rattle.psplib_layout.specs.Rule.{Keeps, lesser}
 use Rattle.psplib_layout.specs.Wanted.{Wanted, give, number, Stands}
 use Rattle.psplib_layout.specs.Reading.{◌>>=◌, Word, next_word, judged, number_in, read_wanted, line_end, refusal}
 use Rattle.psplib_layout.specs.Part.{Spells, words_in, HaveWords}
@@ -19,7 +19,7 @@ kept_as rule line n = judged rule line (Some n)
 judged_keeps : (rule : Rule) (line n m : ℕ) → kept_as rule line n ≡ Ok m → (n ≡ m) × Keeps rule m
 judged_keeps rule line n m e = go (ltb n rule.least) (ltb rule.most n) refl refl e
   where
-    go : (low high : Bool) → ltb n rule.least ≡ low → ltb rule.most n ≡ high → cond low (refusal rule.below line) (cond high (refusal rule.above line) (Ok n)) ≡ Ok m → (n ≡ m) × Keeps rule m
+    go : (low high : Bool) → ltb n rule.least ≡ low → ltb rule.most n ≡ high → cond low (refusal (lesser rule n) line) (cond high (refusal rule.above line) (Ok n)) ≡ Ok m → (n ≡ m) × Keeps rule m
     go true high a b f = absurd cc
     go false true a b f = absurd cc
     go false false a b f =
@@ -50,9 +50,9 @@ wanted_found {A = A} end (give x) lines y rest e =
     record { numbers = []; words = []; stands = same; spelled = refl; taken = left }
 wanted_found end (number rule next) lines y rest e =
     let a = bind_ok (number_in end rule lines) (λ x. read_wanted end (next x.0) x.1) (y, rest) e in
-    let b = bind_ok (next_word end lines) (λ w. judged rule w.0.line (number_of w.0.bytes) >>= λ n. Ok (n, w.1)) a.0 a.1 in
-    let c = bind_ok (judged rule b.0.0.line (number_of b.0.0.bytes)) (λ n. Ok (n, b.0.1)) a.0 b.2 in
-    let k = judged_some rule b.0.0.line c.0 (number_of b.0.0.bytes) c.1 in
+    let b = bind_ok (next_word end lines) (λ w. judged rule w.0.line (word_value w.0.bytes) >>= λ n. Ok (n, w.1)) a.0 a.1 in
+    let c = bind_ok (judged rule b.0.0.line (word_value b.0.0.bytes)) (λ n. Ok (n, b.0.1)) a.0 b.2 in
+    let k = judged_some rule b.0.0.line c.0 (word_value b.0.0.bytes) c.1 in
     let n-is : c.0 ≡ a.0.0 = cc in
     let rest-is : b.0.1 ≡ a.0.1 = cc in
     let more = wanted_found end (next a.0.0) a.0.1 y rest a.2 in
@@ -73,7 +73,7 @@ wanted_again end (give x) lines rest (n ∷ ns) us y st sp t = absurd st
 wanted_again end (number rule next) lines rest [] us y st sp t = absurd st
 wanted_again end (number rule next) lines rest (n ∷ ns) [] y st sp t = absurd cc
 wanted_again end (number rule next) lines rest (n ∷ ns) (u ∷ us) y st sp t =
-    let first : number_of u ≡ Some n = cc in
+    let first : word_value u ≡ Some n = cc in
     let later : Spells us ns = cc in
     rw (t.2, first, keeps_judged rule t.0 n st.0) (wanted_again end (next n) t.1 rest ns us y st.1 later t.3)
 

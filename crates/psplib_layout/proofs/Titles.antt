@@ -1,7 +1,7 @@
 -- Lines that are read one by one.
 use Rattle.std.proofs.Common.{◌≡◌, ℕ, Bool, true, false, cond, List, [], ◌∷◌, ◌++◌, Option, Some, None, Ok, refl, ap, subst, ◌∙◌}
 use Rattle.psplib_lex.specs.Line.{Line}
-use Rattle.psplib_lex.specs.Number.{number_of}
+use Rattle.psplib_lex.specs.Number.{word_value}
 use Rattle.psplib_layout.specs.declared.rule.Rule.{Rule}
 use Rattle.psplib_layout.specs.Rule.{Keeps}
 use Rattle.psplib_layout.specs.declared.fault.Fault.TheVariants.{MissingPart}
@@ -31,14 +31,14 @@ titled_again end key line rest h = rw h refl
 record ValuedFound (rule : Rule) (value : Option (Option (List ℕ))) (n : ℕ) : Type 0 where
   word : List ℕ
   is : value ≡ Some (Some word)
-  number : number_of word ≡ Some n
+  number : word_value word ≡ Some n
   keeps : Keeps rule n
 
 valued_found : (rule : Rule) (line : ℕ) (value : Option (Option (List ℕ))) (n : ℕ) → valued rule line value ≡ Ok n → ValuedFound rule value n
 valued_found rule line None n e = absurd cc
 valued_found rule line (Some None) n e = absurd cc
 valued_found rule line (Some (Some word)) n e =
-    let j = judged_some rule line n (number_of word) e in
+    let j = judged_some rule line n (word_value word) e in
     record { word = word; is = refl; number = j.0; keeps = j.1 }
 
 -- a header line was read

@@ -2,7 +2,7 @@
 use Rattle.std.proofs.Common.{◌≡◌, ℕ, ◌≤◌, List, [], ◌∷◌, ◌++◌, length, map, Ok, refl, sym, ap, subst, ◌∙◌, arith}
 use Rattle.std.proofs.lemmas.List.Concat.{flat_map-cons}
 use Rattle.psplib_lex.specs.Line.{Line}
-use Rattle.psplib_lex.specs.Number.{number_of}
+use Rattle.psplib_lex.specs.Number.{word_value}
 use Rattle.psplib_layout.specs.Wanted.{Wanted, Stands}
 use Rattle.psplib_layout.specs.Reading.{◌>>=◌, read_wanted, line_end}
 use Rattle.psplib_layout.specs.Part.{HasPart, Spells, words_in, part_in, HaveWords}
@@ -39,7 +39,7 @@ part_found {A} end wanted lines x rest e =
     let both = ok_is (a.0.0, b.0) (x, rest) b.2 in
     let f = wanted_found end wanted lines a.0.0 a.0.1 a.1 in
     let t = taken_of end lines f.words a.0.1 b.0 f.taken b.1 in
-    let spelled : Spells (words_in t.part) f.numbers = ap (map number_of) t.words_are ∙ f.spelled in
+    let spelled : Spells (words_in t.part) f.numbers = ap (map word_value) t.words_are ∙ f.spelled in
     let found : PartFound wanted lines a.0.0 b.0 = record { numbers = f.numbers; part = record { part = t.part; lines_are = t.lines_are; spelled = spelled }; stands = f.stands } in
     subst (λ (y : A × List Line). PartFound wanted lines y.0 y.1) both found
 
@@ -65,6 +65,6 @@ part_again {A} end wanted lines x rest numbers some words p stands = go p.part n
     go (k ∷ ks) (n ∷ ns) h e s st =
         let w = words_front (k ∷ ks) rest (subst HaveWords e words) in
         let b = behind end k ks rest w.1 in
-        let spelled : Spells (k.words ++ words_in ks) (n ∷ ns) = ap (map number_of) (sym (flat_map-cons (λ (j : Line). j.words) k ks)) ∙ s in
+        let spelled : Spells (k.words ++ words_in ks) (n ∷ ns) = ap (map word_value) (sym (flat_map-cons (λ (j : Line). j.words) k ks)) ∙ s in
         let read = wanted_again end wanted (k ∷ ks ++ rest) b.rest (n ∷ ns) (k.words ++ words_in ks) x st spelled b.taken in
         rw e (both_read end wanted (k ∷ ks ++ rest) b.rest rest x read b.ended)

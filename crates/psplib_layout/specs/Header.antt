@@ -2,7 +2,7 @@
 use Rattle.std.specs.Prelude.{◌≡◌, ℕ, ◌≤◌, false, true, List, ◌∷◌, ◌++◌, Option, Some, Result, Ok, codes}
 use Rattle.std.specs.List.{AllByRecursion}
 use Rattle.psplib_lex.specs.Line.{Line}
-use Rattle.psplib_lex.specs.Number.{number_of}
+use Rattle.psplib_lex.specs.Number.{word_value}
 use Rattle.psplib_layout.specs.declared.fault.Fault.TheVariants.{NotOneProject, DoublyConstrained}
 pub use Rattle.psplib_layout.specs.declared.content.Header.{Header}
 use Rattle.psplib_layout.specs.declared.fault.Refusal.{Refusal}
@@ -25,7 +25,7 @@ pub record HasValue (key : List ℕ) (line : Line) (n : ℕ) : Type 0 where
   pub titled : HasTitle key line
   pub word : List ℕ
   pub value : header_value line.words ≡ Some (Some word)
-  pub number : number_of word ≡ Some n
+  pub number : word_value word ≡ Some n
 
 -- the line has the title and a colon
 pub record HasColon (key : List ℕ) (line : Line) : Type 0 where

@@ -1,18 +1,21 @@
--- The whole layout: the header and the three parts, and the project that they describe.
-use Rattle.std.specs.Prelude.{◌≡◌, ℕ, ◌+◌, ◌≤◌, ◌==◌, Bool, true, false, List, [], ◌∷◌, ◌++◌, map, filter, Result, Ok, codes, if◌then◌else◌}
+-- The whole layout: the header and the parts behind it, and the project that they describe.
+use Rattle.std.specs.Prelude.{◌≡◌, ℕ, ◌+◌, ◌≤◌, ◌⊎◌, ◌==◌, Bool, true, false, List, [], ◌∷◌, ◌++◌, map, filter, Result, Ok, codes, if◌then◌else◌}
 use Rattle.std.specs.List.{list_any}
 use Rattle.psplib_lex.specs.Line.{Line}
+use Rattle.rcpsp_model.specs.declared.parts.CalRow.{CalRow}
 use Rattle.rcpsp_model.specs.declared.parts.Mode.{Mode}
 use Rattle.rcpsp_model.specs.Project.{Project, Activity, numbers_from}
 pub use Rattle.psplib_layout.specs.declared.content.Content.{Content}
+use Rattle.psplib_layout.specs.declared.fault.Fault.TheVariants.{WordsLeft}
 use Rattle.psplib_layout.specs.declared.fault.Refusal.{Refusal}
-use Rattle.psplib_layout.specs.Reading.{◌>>=◌}
-use Rattle.psplib_layout.specs.Title.{titled, skipped_to, any_line, no_more}
+use Rattle.psplib_layout.specs.Reading.{◌>>=◌, refusal}
+use Rattle.psplib_layout.specs.Title.{has_title, titled, skipped_to, any_line, no_more}
 use Rattle.psplib_layout.specs.Part.{HasPart, part_in}
 use Rattle.psplib_layout.specs.Header.{Header, HasTitle, NoneHasTitle, ReadsHeader, header_in}
 use Rattle.psplib_layout.specs.Precedence.{JobRow, rows_numbers, AreRows, all_rows}
 use Rattle.psplib_layout.specs.Requests.{all_modes_numbers, AreModes, all_modes}
 use Rattle.psplib_layout.specs.Availabilities.{Amounts, AreAmounts, all_amounts}
+use Rattle.psplib_layout.specs.Calendar.{calendar_numbers, AreCalRows, whole_calendar}
 
 -- ---- what each part is
 
@@ -67,15 +70,35 @@ pub record ReadsAvailabilities (header : Header) (lines : List Line) (amounts : 
   pub listed : HasAmounts (has_no_resource header) behind amounts rest
   pub limits : AreAmounts header.renewables header.nonrenewables amounts
 
--- the lines are the header and the three parts, and no more
+-- the title, a heading, and lines that spell the rows of the calendar, which may be none; and no more
+pub record ListsRows (lines : List Line) (rows : List CalRow) : Type 0 where
+  pub title : Line
+  pub heading : Line
+  pub behind : List Line
+  pub lines_are : lines ≡ title ∷ heading ∷ behind
+  pub title_is : HasTitle (codes "CALENDAR:") title
+  pub part : HasPart (calendar_numbers rows) behind []
+
+-- a project without a calendar needs no such part
+abbrev pub HasNoCalendar : List Line → List CalRow → Type 0
+HasNoCalendar lines rows = (lines ≡ []) × (rows ≡ [])
+
+-- the rows of the calendar
+pub record ReadsCalendar (capacities : List ℕ) (lines : List Line) (rows : List CalRow) : Type 0 where
+  pub listed : HasNoCalendar lines rows ⊎ ListsRows lines rows
+  pub limits : AreCalRows capacities rows
+
+-- the lines are the header and the parts in their order, and no more
 pub record ReadsLayout (lines : List Line) (content : Content) : Type 0 where
   pub behind_header : List Line
   pub behind_precedence : List Line
   pub behind_requests : List Line
+  pub behind_availabilities : List Line
   pub header : ReadsHeader lines content.header behind_header
   pub precedence : ReadsPrecedence content.header behind_header content.rows behind_precedence
   pub requests : ReadsRequests content.header content.rows behind_precedence content.modes behind_requests
-  pub availabilities : ReadsAvailabilities content.header behind_requests content.amounts []
+  pub availabilities : ReadsAvailabilities content.header behind_requests content.amounts behind_availabilities
+  pub calendar : ReadsCalendar content.amounts.capacities behind_availabilities content.calendar
 
 -- the numbers of a content are within the limits, and its lists as long as they say
 pub record IsWithinContentLimits (content : Content) : Type 0 where
@@ -86,6 +109,7 @@ pub record IsWithinContentLimits (content : Content) : Type 0 where
   pub rows : AreRows content.header.jobs content.rows
   pub modes : AreModes content.header.renewables content.header.nonrenewables (mode_counts content.rows) content.modes
   pub amounts : AreAmounts content.header.renewables content.header.nonrenewables content.amounts
+  pub calendar : AreCalRows content.amounts.capacities content.calendar
 
 -- the jobs of so many that are among these, ascending and each once
 abbrev pub ascending : ℕ → List ℕ → List ℕ
@@ -103,6 +127,7 @@ project_of content = record {
   activities = activities_of content.header.jobs content.rows content.modes;
   capacities = content.amounts.capacities;
   budgets = content.amounts.budgets;
+  calendar = content.calendar;
 }
 
 -- ---- reading it, up to the first fault
@@ -143,6 +168,19 @@ availabilities_in end header lines = do
   title ← titled end (codes "RESOURCEAVAILABILITIES:") lines
   if has_no_resource header then Ok (no_amounts, title.1) else listed_in end header title.1
 
+-- the rows behind the title of the calendar part, behind which no line is left
+unfoldable pub listed_rows_in : ℕ → List ℕ → List Line → Result (List CalRow) Refusal
+listed_rows_in end capacities lines = do
+  heading ← any_line end lines
+  rows ← part_in end (whole_calendar capacities) heading
+  none ← no_more rows.1
+  Ok rows.0
+
+-- the rows of the calendar, or none where no line is left
+abbrev pub calendar_in : ℕ → List ℕ → List Line → Result (List CalRow) Refusal
+calendar_in end capacities [] = Ok []
+calendar_in end capacities (line ∷ more) = if has_title (codes "CALENDAR:") line then listed_rows_in end capacities more else refusal WordsLeft line.number
+
 -- the content of lines that are the layout and no more
 unfoldable pub layout_in : ℕ → List Line → Result Content Refusal
 layout_in end lines = do
@@ -150,5 +188,5 @@ layout_in end lines = do
   rows ← precedence_in end header.0 header.1
   modes ← requests_in end header.0 rows.0 rows.1
   amounts ← availabilities_in end header.0 modes.1
-  none ← no_more amounts.1
-  Ok (record { header = header.0; rows = rows.0; modes = modes.0; amounts = amounts.0 })
+  calendar ← calendar_in end amounts.0.capacities amounts.1
+  Ok (record { header = header.0; rows = rows.0; modes = modes.0; amounts = amounts.0; calendar = calendar })

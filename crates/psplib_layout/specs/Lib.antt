@@ -7,6 +7,7 @@ pub mod Header
 pub mod Precedence
 pub mod Requests
 pub mod Availabilities
+pub mod Calendar
 pub mod Layout
 pub mod Text
 pub mod FirstFault

@@ -2,7 +2,7 @@
 use Rattle.std.specs.Prelude.{◌≡◌, ℕ, ◌≤◌, List, ◌++◌, length, map, Some, Result, Ok}
 use Rattle.std.specs.List.{flat_map, AllByRecursion}
 use Rattle.psplib_lex.specs.Line.{Line}
-use Rattle.psplib_lex.specs.Number.{number_of}
+use Rattle.psplib_lex.specs.Number.{word_value}
 use Rattle.psplib_layout.specs.declared.fault.Refusal.{Refusal}
 use Rattle.psplib_layout.specs.Wanted.{Wanted}
 use Rattle.psplib_layout.specs.Reading.{◌>>=◌, read_wanted, line_end}
@@ -13,7 +13,7 @@ words_in lines = flat_map (λ line. line.words) lines
 
 -- each word stands for its number
 abbrev pub Spells : List (List ℕ) → List ℕ → Type 0
-Spells words numbers = map number_of words ≡ map Some numbers
+Spells words numbers = map word_value words ≡ map Some numbers
 
 -- the lines begin with a part that spells these numbers, and go on with those
 pub record HasPart (numbers : List ℕ) (lines rest : List Line) : Type 0 where

@@ -43,11 +43,11 @@ pub record AreRows (jobs : ℕ) (rows : List JobRow) : Type 0 where
 
 -- where there is room for so many modes
 abbrev pub mode_count : ℕ → Rule
-mode_count room = record { least = 1; most = min 16 room; below = NoModes; above = OutOfLimit }
+mode_count room = record { least = 1; most = min 16 room; floor = 0; below = NoModes; above = OutOfLimit }
 
 -- one of the jobs
 abbrev pub successor : ℕ → Rule
-successor jobs = record { least = 1; most = jobs; below = SuccessorOutOfRange; above = SuccessorOutOfRange }
+successor jobs = record { least = 1; most = jobs; floor = 0; below = SuccessorOutOfRange; above = SuccessorOutOfRange }
 
 -- the number of the job, its number of modes, its number of successors, and so many successors
 unfoldable pub job_row : ℕ → ℕ → ℕ → Wanted JobRow

@@ -2,11 +2,12 @@
 -- words may be taken already.
 use Rattle.std.specs.Prelude.{ℕ, List, [], ◌∷◌, Option, Some, None, Result, Ok, Err, nat_lt, if◌then◌else◌}
 use Rattle.psplib_lex.specs.Line.{Line}
-use Rattle.psplib_lex.specs.Number.{number_of}
+use Rattle.psplib_lex.specs.Number.{word_value}
 use Rattle.psplib_layout.specs.declared.fault.Fault.{Fault}
 use Rattle.psplib_layout.specs.declared.fault.Fault.TheVariants.{NotANumber, TextEnds, WordsLeft}
 use Rattle.psplib_layout.specs.declared.fault.Refusal.{Refusal}
 use Rattle.psplib_layout.specs.declared.rule.Rule.{Rule}
+use Rattle.psplib_layout.specs.Rule.{lesser}
 use Rattle.psplib_layout.specs.Wanted.{Wanted, give, number}
 
 -- a step, and what follows where it isn't refused
@@ -37,13 +38,13 @@ next_word end (line ∷ more) = first_word line.number line.words more (next_wor
 -- what a word on this line stands for, judged by a rule
 abbrev pub judged : Rule → ℕ → Option ℕ → Result ℕ Refusal
 judged rule line None = refusal NotANumber line
-judged rule line (Some n) = if nat_lt n rule.least then refusal rule.below line else if nat_lt rule.most n then refusal rule.above line else Ok n
+judged rule line (Some n) = if nat_lt n rule.least then refusal (lesser rule n) line else if nat_lt rule.most n then refusal rule.above line else Ok n
 
 -- the next word as a number under a rule
 unfoldable pub number_in : ℕ → Rule → List Line → Result (ℕ × List Line) Refusal
 number_in end rule lines = do
   word ← next_word end lines
-  n ← judged rule word.0.line (number_of word.0.bytes)
+  n ← judged rule word.0.line (word_value word.0.bytes)
   Ok (n, word.1)
 
 -- the numbers that are wanted, taken across lines

@@ -3,7 +3,7 @@ use Rattle.std.specs.Prelude.{◌≡◌, ℕ, ◌+◌, ◌-◌, ◌<◌, ◌≤�
 use Rattle.psplib_lex.specs.declared.lexer.TheConstants.{MOST_BYTES}
 use Rattle.psplib_lex.specs.Line.{Line, is_line_end, lines_of}
 use Rattle.rcpsp_model.specs.Project.{Project, IsAcyclic}
-use Rattle.rcpsp_model.specs.Chain.{IsChain, IsLeast}
+use Rattle.rcpsp_model.specs.Chain.{IsLeast, IsOnCycle}
 use Rattle.psplib_layout.specs.declared.fault.Fault.TheVariants.{TextTooLong, Cycle}
 use Rattle.psplib_layout.specs.declared.fault.Refusal.{Refusal}
 use Rattle.psplib_layout.specs.declared.fault.ReadError.{ReadError}
@@ -43,10 +43,6 @@ IsRefusedAsLong text errors.NoMemory = Unit {0}
 IsRefusedAsLong text (errors.Refused f) = (MOST_BYTES < length text) × (f ≡ record { fault = TextTooLong; line = 0 })
 
 -- ---- cycles, which are judged when all else is read
-
--- a chain leads from the job back to it
-abbrev pub IsOnCycle : Project → ℕ → Type 0
-IsOnCycle P job = (between : List ℕ) × IsChain P (job ∷ (between ++ job ∷ []))
 
 -- the line of a word of lines, counted from 0 through all of them
 abbrev pub line_of_word : List Line → ℕ → ℕ

@@ -1,7 +1,7 @@
 -- Titles and header lines: what a line begins with, and its value.
 use Rattle.std.specs.Prelude.{ℕ, Bool, true, false, ◌&&◌, ◌==◌, List, [], ◌∷◌, Option, Some, None, Result, Ok, if◌then◌else◌}
 use Rattle.psplib_lex.specs.Line.{Line, squeezed}
-use Rattle.psplib_lex.specs.Number.{number_of}
+use Rattle.psplib_lex.specs.Number.{word_value}
 use Rattle.psplib_layout.specs.declared.fault.Fault.TheVariants.{MissingPart, NotANumber, TextEnds, WordsLeft}
 use Rattle.psplib_layout.specs.declared.fault.Refusal.{Refusal}
 use Rattle.psplib_layout.specs.declared.rule.Rule.{Rule}
@@ -49,7 +49,7 @@ header_value (word ∷ words) = first_behind (behind_colon word) words (header_v
 abbrev pub valued : Rule → ℕ → Option (Option (List ℕ)) → Result ℕ Refusal
 valued rule line None = refusal MissingPart line
 valued rule line (Some None) = refusal NotANumber line
-valued rule line (Some (Some word)) = judged rule line (number_of word)
+valued rule line (Some (Some word)) = judged rule line (word_value word)
 
 -- a line that has the title
 abbrev pub titled : ℕ → List ℕ → List Line → Result (Line × List Line) Refusal

@@ -1,4 +1,4 @@
-use rcpsp_model::Mode;
+use rcpsp_model::{CalRow, Mode};
 use sched_base::List;
 
 /// The numbers of a header.
@@ -41,4 +41,6 @@ pub struct Content {
     pub modes: List<List<Mode>>,
     /// The capacities and the budgets.
     pub amounts: Amounts,
+    /// The rows of the calendar.
+    pub calendar: List<CalRow>,
 }

@@ -32,6 +32,9 @@ pub enum Fault {
     TextEnds = 12,
     /// A word follows the last word of a part on its line, or a line follows the last part.
     WordsLeft = 13,
+    /// A row of the calendar names a lower resource than the row before, begins before an earlier row of its resource is
+    /// over, or has no period.
+    CalendarOrder = 15,
 }
 
 /// The first rule that a text breaks, and the number of the line where it does, from 1; 0 for the text as a whole.

@@ -2,6 +2,7 @@
 
 ghost use Rattle.std.specs.Prelude.{◌≡◌, ◌↔◌, ◌≤◌, ℕ, List, length, Ok, Err};
 ghost use Rattle.psplib_lex.specs.Line.{Line, lines_of};
+ghost use Rattle.rcpsp_model.specs.declared.parts.CalRow.{CalRow};
 ghost use Rattle.rcpsp_model.specs.declared.parts.Mode.{Mode};
 ghost use Rattle.rcpsp_model.specs.Project.{Project, IsWithinLimits};
 ghost use Rattle.psplib_layout.specs.declared.fault.Refusal.{Refusal};
@@ -12,7 +13,8 @@ ghost use Rattle.psplib_layout.specs.Header.{Header, ReadsHeader, header_in};
 ghost use Rattle.psplib_layout.specs.Precedence.{JobRow, all_rows};
 ghost use Rattle.psplib_layout.specs.Requests.{all_modes};
 ghost use Rattle.psplib_layout.specs.Availabilities.{Amounts, all_amounts};
-ghost use Rattle.psplib_layout.specs.Layout.{Content, ReadsPrecedence, ReadsRequests, ReadsAvailabilities, ReadsLayout, IsWithinContentLimits, project_of, precedence_in, requests_in, availabilities_in, layout_in};
+ghost use Rattle.psplib_layout.specs.Calendar.{whole_calendar};
+ghost use Rattle.psplib_layout.specs.Layout.{Content, ReadsPrecedence, ReadsRequests, ReadsAvailabilities, ReadsCalendar, ReadsLayout, IsWithinContentLimits, project_of, precedence_in, requests_in, availabilities_in, calendar_in, layout_in};
 ghost use Rattle.psplib_layout.specs.Text.{HasContent, Reads, content_in, row_line, job_line_in};
 
 /// The header is read exactly where the lines have one.
@@ -42,6 +44,13 @@ pub fn availabilities_are_read()
         → (availabilities_in end header lines ≡ Ok (amounts, rest)) ↔ ReadsAvailabilities header lines amounts rest }
 {}
 
+/// The calendar part is read exactly where the lines are one, or where there are none.
+pub fn calendar_is_read()
+    ensures { (end : ℕ) (capacities : List ℕ) (lines : List Line) (rows : List CalRow)
+        → HaveWords lines
+        → (calendar_in end capacities lines ≡ Ok rows) ↔ ReadsCalendar capacities lines rows }
+{}
+
 /// The whole layout is read exactly where the lines have it.
 pub fn layout_is_read()
     ensures { (end : ℕ) (lines : List Line) (content : Content)
@@ -69,6 +78,8 @@ pub fn first_fault_is_refused()
         → (read_wanted end (all_modes R N job counts) lines ≡ Err f) ↔ FirstFault end (all_modes R N job counts) lines f }
     ensures amounts { (end R N : ℕ) (lines : List Line) (f : Refusal)
         → (read_wanted end (all_amounts R N) lines ≡ Err f) ↔ FirstFault end (all_amounts R N) lines f }
+    ensures calendar { (end : ℕ) (capacities : List ℕ) (lines : List Line) (f : Refusal)
+        → (read_wanted end (whole_calendar capacities) lines ≡ Err f) ↔ FirstFault end (whole_calendar capacities) lines f }
 {}
 
 /// In a text that has a content each job's number stands on a line.

@@ -2,6 +2,7 @@
 #![tactic(auto)]
 
 mod availabilities;
+mod calendar;
 mod content;
 mod fault;
 mod header;

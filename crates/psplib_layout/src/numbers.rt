@@ -1,7 +1,7 @@
 ghost use Rattle.std.specs.Prelude.{◌≡◌, ◌+◌, ◌-◌, ◌*◌, ◌≤◌, min};
 ghost use Rattle.std.specs.Option.{option_map};
 ghost use Rattle.std.specs.List.{list_all};
-ghost use Rattle.psplib_lex.specs.Number.{is_digit, is_number, decimal, number_of};
+ghost use Rattle.psplib_lex.specs.Number.{is_digit, is_number, digits_value, word_value};
 
 /// Numbers from here on are out of every limit.
 pub const CAP: u32 = 100_000_000;
@@ -32,8 +32,8 @@ fn with_digit(value: u32, digit: u8) -> u32
     if more < CAP { more } else { CAP }
 }
 
-fn decimal(digits: &[u8]) -> u32
-    ensures { result ≡ min (decimal digits.now) CAP }
+fn capped_value(digits: &[u8]) -> u32
+    ensures { result ≡ min (digits_value digits.now) CAP }
 {
     let mut value = 0;
     for digit in digits {
@@ -43,12 +43,12 @@ fn decimal(digits: &[u8]) -> u32
 }
 
 /// The number that a word stands for, or [`CAP`] where that is less; none where the word is no number.
-#[tactic(auto, unfolding(psplib_lex::specs::Number::number_of))]
+#[tactic(auto, unfolding(psplib_lex::specs::Number::word_value))]
 pub fn number(word: &[u8]) -> Option<u32>
-    ensures { result ≡ option_map (λ n. min n CAP) (number_of word.now) }
+    ensures { result ≡ option_map (λ n. min n CAP) (word_value word.now) }
 {
     if is_number(word) {
-        Some(decimal(word))
+        Some(capped_value(word))
     } else {
         None
     }

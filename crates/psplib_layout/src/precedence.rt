@@ -22,6 +22,7 @@ fn mode_count(room: u32) -> Rule
     Rule {
         least: 1,
         most: if room < 16 { room } else { 16 },
+        floor: 0,
         below: Fault::NoModes,
         above: Fault::OutOfLimit,
     }
@@ -33,6 +34,7 @@ fn successor(jobs: u32) -> Rule
     Rule {
         least: 1,
         most: jobs,
+        floor: 0,
         below: Fault::SuccessorOutOfRange,
         above: Fault::SuccessorOutOfRange,
     }

@@ -1,5 +1,5 @@
 ghost use Rattle.std.specs.Prelude.{◌≡◌};
-ghost use Rattle.psplib_layout.specs.Rule.{exactly, between};
+ghost use Rattle.psplib_layout.specs.Rule.{lesser, exactly, between, ordered};
 
 use crate::fault::Fault;
 
@@ -10,9 +10,11 @@ pub struct Rule {
     pub least: u32,
     /// The greatest number that keeps it.
     pub most: u32,
-    /// The fault of a lesser number.
+    /// The least number that has the fault `below`; a still lesser one is as far out as one above `most`.
+    pub floor: u32,
+    /// The fault of a number that is less than `least`, from `floor` on.
     pub below: Fault,
-    /// The fault of a greater number.
+    /// The fault of a number that is greater than `most` or less than `floor`.
     pub above: Fault,
 }
 
@@ -24,6 +26,7 @@ impl Rule {
         Rule {
             least: n,
             most: n,
+            floor: 0,
             below: fault,
             above: fault,
         }
@@ -36,8 +39,33 @@ impl Rule {
         Rule {
             least,
             most,
+            floor: 0,
             below: Fault::OutOfLimit,
             above: Fault::OutOfLimit,
+        }
+    }
+
+    /// The number is from `floor` to `most`, and by the order of the calendar's rows it is no less than `least`.
+    pub fn ordered(floor: u32, least: u32, most: u32) -> Rule
+        ensures { result ≡ ordered floor least most }
+    {
+        Rule {
+            least,
+            most,
+            floor,
+            below: Fault::CalendarOrder,
+            above: Fault::OutOfLimit,
+        }
+    }
+
+    /// The fault of a number that is less than `least`.
+    pub fn lesser(self, n: u32) -> Fault
+        ensures { result ≡ lesser self n }
+    {
+        if n < self.floor {
+            self.above
+        } else {
+            self.below
         }
     }
 }

@@ -1,5 +1,5 @@
 ghost use Rattle.std.specs.Prelude.{◌<◌, Ok};
-ghost use Rattle.psplib_lex.specs.Number.{number_of};
+ghost use Rattle.psplib_lex.specs.Number.{word_value};
 ghost use Rattle.psplib_layout.specs.Place.{Gives, rest_at};
 ghost use Rattle.psplib_layout.specs.Reading.{next_word, judged, number_in, read_wanted, line_end};
 ghost use Rattle.psplib_layout.specs.Wanted.{times};
@@ -24,13 +24,13 @@ pub struct Source<'t> {
 pub fn judge(rule: Rule, line: u32, word: &[u8]) -> Result<u32, ReadError>
     requires least { rule.least < CAP }
     requires most { rule.most < CAP }
-    ensures { Gives (λ n. n) result (judged rule line (number_of word.now)) }
+    ensures { Gives (λ n. n) result (judged rule line (word_value word.now)) }
 {
     match number(word) {
         None => Err(refused(Fault::NotANumber, line)),
         Some(n) => {
             if n < rule.least {
-                return Err(refused(rule.below, line));
+                return Err(refused(rule.lesser(n), line));
             }
             if rule.most < n {
                 return Err(refused(rule.above, line));

@@ -28,12 +28,13 @@ impl Source<'_> {
         let (rows, at) = self.precedence_at(alloc, at, header)?;
         let (modes, at) = self.requests_at(alloc, at, header, rows.as_slice())?;
         let (amounts, at) = self.availabilities_at(alloc, at, header)?;
-        let _end = self.no_more_at(at)?;
+        let calendar = self.calendar_at(alloc, at, amounts.capacities.as_slice())?;
         Ok(Content {
             header,
             rows,
             modes,
             amounts,
+            calendar,
         })
     }
 

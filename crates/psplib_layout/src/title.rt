@@ -41,7 +41,7 @@ fn behind_colon(word: &[u8]) -> Option<&[u8]>
 
 impl Source<'_> {
     /// Whether what is left of the line begins with the key, blanks apart.
-    fn has_title(&self, at: Place, key: &[u8]) -> bool
+    pub(crate) fn has_title(&self, at: Place, key: &[u8]) -> bool
         requires { at.line < length self.now.words }
         ensures { result ≡ has_title key.now (line_left self.now.words at) }
     {

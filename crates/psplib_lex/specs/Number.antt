@@ -10,9 +10,9 @@ abbrev pub is_number : List ℕ → Bool
 is_number word = not (length word == 0) && list_all is_digit word
 
 -- what digits stand for in base ten
-abbrev pub decimal : List ℕ → ℕ
-decimal digits = fold (λ n digit. 10 * n + (digit - 0x30)) 0 digits
+abbrev pub digits_value : List ℕ → ℕ
+digits_value digits = fold (λ n digit. 10 * n + (digit - 0x30)) 0 digits
 
 -- the number that a word stands for, of whatever length, where it is one
-unfoldable pub number_of : List ℕ → Option ℕ
-number_of word = if is_number word then Some (decimal word) else None
+unfoldable pub word_value : List ℕ → Option ℕ
+word_value word = if is_number word then Some (digits_value word) else None

@@ -11,10 +11,10 @@ use Rattle.sched_base.specs.declared.job_set.JobSet.{JobSet}
 use Rattle.sched_base.specs.JobSet.{member}
 use Rattle.sched_base.proofs.Bits.{test, test-or}
 use Rattle.rcpsp_model.specs.Project.{Project, is_before, IsJob, IsAcyclic, IsWithinLimits, job_count}
-use Rattle.rcpsp_model.specs.Chain.{IsLeast}
+use Rattle.rcpsp_model.specs.Chain.{IsLeast, IsOnCycle}
 use Rattle.rcpsp_model.proofs.Numbers.{Decided, both_decided, le_decided, true_decided, least_below}
 use Rattle.project_net.specs.Flat.{row}
-use Rattle.project_net.specs.Order.{AreDescendants, IsOnCycle, IsLowestInOwnSet}
+use Rattle.project_net.specs.Order.{AreDescendants, IsLowestInOwnSet}
 use Rattle.project_net.proofs.Pairs.{pairs}
 use Rattle.project_net.proofs.Via.{leads_via, descendants-from_via}
 use Rattle.project_net.proofs.Cycles.{acyclic-from, cycle-least}

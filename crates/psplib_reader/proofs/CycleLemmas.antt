@@ -1,10 +1,10 @@
--- A cycle told step by step is one told as a list, and a text whose project has one is refused for it.
+-- A text whose project has a cycle is refused for it.
 use Rattle.std.proofs.Common.{◌≡◌, ℕ, ◌≤◌, inl, List, [], ◌∷◌, ◌++◌, length, Result, Ok, Err, refl, sym, ap, subst, ◌∙◌, arith}
 use Rattle.std.specs.Prelude.{IfOk}
 use Rattle.psplib_lex.specs.declared.lexer.TheConstants.{MOST_BYTES}
 use Rattle.psplib_lex.specs.Line.{Line, lines_of}
 use Rattle.rcpsp_model.specs.Project.{Project, IsAcyclic, IsJob, IsWithinLimits}
-use Rattle.rcpsp_model.specs.Chain.{IsChain, IsLeast}
+use Rattle.rcpsp_model.specs.Chain.{IsLeast, IsOnCycle}
 use Rattle.psplib_layout.specs.declared.content.Content.{Content}
 use Rattle.psplib_layout.specs.declared.fault.Fault.TheVariants.{Cycle}
 use Rattle.psplib_layout.specs.declared.fault.Refusal.{Refusal}
@@ -12,7 +12,7 @@ use Rattle.psplib_layout.specs.declared.fault.ReadError.{ReadError}
 use Rattle.psplib_layout.specs.declared.fault.ReadError.TheVariants as errors
 use Rattle.psplib_layout.specs.Place.{IsRefused}
 use Rattle.psplib_layout.specs.Layout.{IsWithinContentLimits, layout_in, project_of as described}
-use Rattle.psplib_layout.specs.Text.{HasContent, Reads, IsOnCycle, HasCycle, IsFirstRefusal, content_in, end_line, job_line_in, row_line}
+use Rattle.psplib_layout.specs.Text.{HasContent, Reads, HasCycle, IsFirstRefusal, content_in, end_line, job_line_in, row_line}
 use Rattle.psplib_layout.proofs.Limits.{project_limits}
 use Rattle.psplib_layout.proofs.TextLemmas.{content_found, short_text}
 use Rattle.psplib_layout.proofs.JobLines.{job_line_is}
@@ -20,39 +20,20 @@ use Rattle.project_net.specs.declared.draft.Draft.{Draft}
 use Rattle.project_net.specs.declared.draft.BuildRefusal.{BuildRefusal}
 use Rattle.project_net.specs.declared.draft.BuildRefusal.TheVariants as faults
 use Rattle.project_net.specs.Draft.{project_of}
-use Rattle.project_net.specs.Order.{Leads, pair, on, IsOnCycle as LeadsBack}
 use Rattle.project_net.specs.Refusal.{IsRefusal, IsSound}
-use Rattle.project_net.proofs.Pairs.{pairs}
+use Rattle.project_net.proofs.Cycles.{leads-from-job}
 use Rattle.psplib_reader.specs.Line.{line_in}
 use Rattle.psplib_reader.proofs.LimitLemmas.{described_count}
 
-chain_from_leads : (P : Project) {i j : ℕ} → Leads P i j → (between : List ℕ) × IsChain P (i ∷ (between ++ j ∷ []))
-chain_from_leads P (pair b) = ([], (b, tt))
-chain_from_leads P (on {i} {j} {k} b l) = let r = chain_from_leads P l in (j ∷ r.0, (b, r.1))
-
-leads_from_chain : (P : Project) (between : List ℕ) (i j : ℕ) → IsChain P (i ∷ (between ++ j ∷ [])) → Leads P i j
-leads_from_chain P [] i j h = pair h.0
-leads_from_chain P (k ∷ ks) i j h = on h.0 (leads_from_chain P ks k j h.1)
-
-pub lowest_is : (P : Project) (j : ℕ) → IsLeast (LeadsBack P) j → IsLeast (IsOnCycle P) j
-lowest_is P j h = record {
-  attained = chain_from_leads P h.attained;
-  least = λ u chain. h.least u (leads_from_chain P chain.0 u u chain.1);
-}
-
-leads_from_job : (P : Project) → IsWithinLimits P → {i j : ℕ} → Leads P i j → IsJob P i
-leads_from_job P w {i} {j} (pair b) = (pairs P w i j b).0
-leads_from_job P w (on {i} {j} {k} b l) = (pairs P w i j b).0
-
 -- the lowest job on a cycle, by the refusal of the draft
-pub lowest_by : (draft : Draft) (refusal : BuildRefusal) (job : ℕ) → refusal ≡ faults.Cycle job → IsRefusal draft refusal → IsLeast (LeadsBack (project_of draft)) job
+pub lowest_by : (draft : Draft) (refusal : BuildRefusal) (job : ℕ) → refusal ≡ faults.Cycle job → IsRefusal draft refusal → IsLeast (IsOnCycle (project_of draft)) job
 lowest_by draft refusal job e r = let h : IsRefusal draft (faults.Cycle job) = subst (λ (f : BuildRefusal). IsRefusal draft f) e r in h.1
 
 -- it is one of the jobs of the content
-pub job_is : (content : Content) (draft : Draft) (job : ℕ) → IsWithinContentLimits content → project_of draft ≡ described content → IsLeast (LeadsBack (project_of draft)) job → (1 ≤ job) × (job ≤ content.header.jobs)
+pub job_is : (content : Content) (draft : Draft) (job : ℕ) → IsWithinContentLimits content → project_of draft ≡ described content → IsLeast (IsOnCycle (project_of draft)) job → (1 ≤ job) × (job ≤ content.header.jobs)
 job_is content draft job h same lowest =
-    let l : IsLeast (LeadsBack (described content)) job = subst (λ (P : Project). IsLeast (LeadsBack P) job) same lowest in
-    let j = leads_from_job (described content) (project_limits content h) l.attained in
+    let l : IsLeast (IsOnCycle (described content)) job = subst (λ (P : Project). IsLeast (IsOnCycle P) job) same lowest in
+    let j = leads-from-job (described content) (project_limits content h) l.attained in
     let low = j.0 in
     let high = j.1 in
     let count = described_count content h in
@@ -86,12 +67,12 @@ reads_from text lines end content draft P r same sound e = record {
   acyclic = subst IsAcyclic (sym e) sound.acyclic;
 }
 
-pub cycle_first : (text : List ℕ) (lines : List Line) (end : ℕ) (content : Content) (draft : Draft) (job line : ℕ) → IsRead text lines end content → project_of draft ≡ described content → IsLeast (LeadsBack (project_of draft)) job → line_in end lines job ≡ Ok line → HasCycle text (record { fault = Cycle; line = line })
+pub cycle_first : (text : List ℕ) (lines : List Line) (end : ℕ) (content : Content) (draft : Draft) (job line : ℕ) → IsRead text lines end content → project_of draft ≡ described content → IsLeast (IsOnCycle (project_of draft)) job → line_in end lines job ≡ Ok line → HasCycle text (record { fault = Cycle; line = line })
 cycle_first text lines end content draft job line r same lowest e = record {
   content = content;
   has_content = content_is text lines end content r;
   job = job;
-  lowest = lowest_is (described content) job (subst (λ (P : Project). IsLeast (LeadsBack P) job) same lowest);
+  lowest = subst (λ (P : Project). IsLeast (IsOnCycle P) job) same lowest;
   fault_is = refl;
   line_is = sym (line_at text lines end content job r) ∙ e;
 }

@@ -5,7 +5,7 @@ use Rattle.std.proofs.lemmas.List.{length-map}
 use Rattle.std.proofs.lemmas.List.Elements.{All-from_recursion}
 use Rattle.std.proofs.lemmas.List.Sums.{sum_by-cons}
 use Rattle.rcpsp_model.specs.declared.parts.Mode.{Mode}
-use Rattle.rcpsp_model.specs.Project.{Activity, Project, IsModeWithinLimits, job_count}
+use Rattle.rcpsp_model.specs.Project.{Activity, Project, IsModeWithinLimits, IsRowWithinLimits, job_count}
 use Rattle.psplib_layout.specs.declared.content.Content.{Content}
 use Rattle.psplib_layout.specs.declared.content.JobRow.{JobRow}
 use Rattle.psplib_layout.specs.Precedence.{IsRow, mode_total, IsJob}
@@ -79,19 +79,19 @@ pub small_successors : (content : Content) → IsWithinContentLimits content →
 small_successors content h = All-from_recursion (λ (row : JobRow). All (λ s. s ≤ 128) row.successors) content.rows (small_rows content.header.jobs h.few_jobs content.rows h.rows.each)
 
 abbrev pub draft_in : Content → Draft
-draft_in content = record { jobs = drafted content.rows content.modes; capacities = content.amounts.capacities; budgets = content.amounts.budgets }
+draft_in content = record { jobs = drafted content.rows content.modes; capacities = content.amounts.capacities; budgets = content.amounts.budgets; calendar = content.calendar }
 
 job_count_is : (content : Content) → IsWithinContentLimits content → length (drafted content.rows content.modes) ≡ content.header.jobs
 job_count_is content h = length-drafted content.rows content.modes h.modes.counts_are ∙ h.rows.count
 
-pub draft_is : (content : Content) (rows : List JobRow) (jobs : List DraftJob) → jobs ≡ drafted rows content.modes → rows ≡ content.rows → (let d : Draft = record { jobs = jobs; capacities = content.amounts.capacities; budgets = content.amounts.budgets } in d) ≡ draft_in content
+pub draft_is : (content : Content) (rows : List JobRow) (jobs : List DraftJob) → jobs ≡ drafted rows content.modes → rows ≡ content.rows → (let d : Draft = record { jobs = jobs; capacities = content.amounts.capacities; budgets = content.amounts.budgets; calendar = content.calendar } in d) ≡ draft_in content
 draft_is content rows jobs e r =
-    ap (λ (js : List DraftJob). (let d : Draft = record { jobs = js; capacities = content.amounts.capacities; budgets = content.amounts.budgets } in d)) (e ∙ ap (λ (rs : List JobRow). drafted rs content.modes) r)
+    ap (λ (js : List DraftJob). (let d : Draft = record { jobs = js; capacities = content.amounts.capacities; budgets = content.amounts.budgets; calendar = content.calendar } in d)) (e ∙ ap (λ (rs : List JobRow). drafted rs content.modes) r)
 
 pub project_is : (content : Content) → IsWithinContentLimits content → project_of (draft_in content) ≡ described content
 project_is content h =
     let jobs = drafted content.rows content.modes in
-    ap (λ (as' : List Activity). (let P : Project = record { activities = as'; capacities = content.amounts.capacities; budgets = content.amounts.budgets } in P))
+    ap (λ (as' : List Activity). (let P : Project = record { activities = as'; capacities = content.amounts.capacities; budgets = content.amounts.budgets; calendar = content.calendar } in P))
     (ap (λ (n : ℕ). map (activity_of n) jobs) (job_count_is content h) ∙ activities_same content.header.jobs content.rows content.modes)
 
 pub described_count : (content : Content) → IsWithinContentLimits content → job_count (described content) ≡ content.header.jobs
@@ -117,6 +117,9 @@ limits_are content h =
         few_nonrenewables = omega (arith, nonrenewables, h.few_nonrenewables);
         capacities = All-from_recursion (λ (c : ℕ). c ≤ 1000000) content.amounts.capacities h.amounts.capacities;
         budgets = All-from_recursion (λ (b : ℕ). b ≤ 1000000) content.amounts.budgets h.amounts.budgets;
+        few_rows = h.calendar.few_rows;
+        rows = All-from_recursion (IsRowWithinLimits content.amounts.capacities) content.calendar h.calendar.each;
+        calendar = h.calendar.in_order;
       };
       jobs =
           subst (λ (r : ℕ). All (IsJobWithinLimits r (length content.amounts.budgets)) jobs) (sym renewables)

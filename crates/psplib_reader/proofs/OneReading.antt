@@ -2,7 +2,7 @@
 use Rattle.std.proofs.Common.{◌≡◌, ℕ, ◌<◌, ◌⊎◌, inl, inr, arith, refl, sym, ap, subst, ◌∙◌, List, [], ◌∷◌, ◌++◌, Result, Ok, Err}
 use Rattle.std.specs.Prelude.{IfOk}
 use Rattle.rcpsp_model.specs.Project.{Project, IsAcyclic}
-use Rattle.rcpsp_model.specs.Chain.{IsChain, IsLeast}
+use Rattle.rcpsp_model.specs.Chain.{IsLeast, IsOnCycle}
 use Rattle.rcpsp_model.proofs.Numbers.{least-one}
 use Rattle.psplib_lex.specs.Line.{lines_of}
 use Rattle.psplib_layout.specs.declared.content.Content.{Content}
@@ -12,11 +12,11 @@ use Rattle.psplib_layout.specs.declared.fault.Refusal.{Refusal}
 use Rattle.psplib_layout.specs.declared.fault.ReadError.{ReadError}
 use Rattle.psplib_layout.specs.declared.fault.ReadError.TheVariants as errors
 use Rattle.psplib_layout.specs.Layout.{project_of}
-use Rattle.psplib_layout.specs.Text.{HasContent, Reads, IsProjectText, IsOnCycle, HasCycle, IsFirstRefusal, content_in, end_line, job_line_in, row_line}
+use Rattle.psplib_layout.specs.Text.{HasContent, Reads, IsProjectText, HasCycle, IsFirstRefusal, content_in, end_line, job_line_in, row_line}
 use Rattle.psplib_layout.proofs.Limits.{limits_of, project_limits}
 use Rattle.psplib_layout.proofs.TextLemmas.{content_found, content_again, one_content, one_project}
 use Rattle.psplib_layout.proofs.JobLines.{job_line_is}
-use Rattle.psplib_reader.proofs.CycleLemmas.{lowest_is}
+use Rattle.project_net.proofs.RefusalLemmas.{leads-rises}
 use Rattle.psplib_reader.proofs.CycleCases.{acyclic_or_cycle}
 
 -- ---- one or the other
@@ -37,7 +37,7 @@ refused_for text content h job lowest = record {
 by_content : (text : List ℕ) (content : Content) → HasContent text content → IsProjectText text ⊎ ((f : Refusal) × IsFirstRefusal text f)
 by_content text content h = elim (acyclic_or_cycle (project_of content) (project_limits content (limits_of (lines_of text) content h.layout))) [
   | inl acyclic ↦ inl (project_of content, read_as text content h acyclic)
-  | inr cycle ↦ inr (_, inr (refused_for text content h cycle.0 (lowest_is (project_of content) cycle.0 cycle.1)))
+  | inr cycle ↦ inr (_, inr (refused_for text content h cycle.0 cycle.1))
 ]
 
 pub read_or_refused : (text : List ℕ) → IsProjectText text ⊎ ((f : Refusal) × IsFirstRefusal text f)
@@ -52,12 +52,8 @@ read_or_refused text = go (content_in text) refl
 content_not_refused : (text : List ℕ) (content : Content) (f : Refusal) → HasContent text content → content_in text ≡ Err f → ⊥
 content_not_refused text content f h e = let clash : Err f ≡ Ok content = sym e ∙ content_again text content h in cc
 
-rank_rises : (P : Project) (a : IsAcyclic P) (between : List ℕ) (i j : ℕ) → IsChain P (i ∷ (between ++ j ∷ [])) → a.rank i < a.rank j
-rank_rises P a [] i j chain = a.rises i j chain.0
-rank_rises P a (k ∷ between) i j chain = let up = a.rises i k chain.0 in let later = rank_rises P a between k j chain.1 in omega arith
-
 acyclic_has_no_cycle : (P : Project) (job : ℕ) → IsAcyclic P → IsOnCycle P job → ⊥
-acyclic_has_no_cycle P job a cycle = let up = rank_rises P a cycle.0 job job cycle.1 in omega arith
+acyclic_has_no_cycle P job a cycle = let up = leads-rises P a cycle in omega arith
 
 -- the project that the text is read as is the one that its content describes
 acyclic_content : (text : List ℕ) (P : Project) (content : Content) → Reads text P → HasContent text content → IsAcyclic (project_of content)

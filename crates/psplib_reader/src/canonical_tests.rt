@@ -7,13 +7,15 @@ use std::process::Abort;
 
 /// What the canonical texts of projects differ in.
 #[derive(Clone, Copy)]
-struct Worked<'a> {
-    counts: (u8, u8, u8),
-    horizon: u32,
-    precedence: &'a str,
-    heading: &'a str,
-    modes: &'a str,
-    amounts: &'a str,
+pub struct Worked<'a> {
+    pub counts: (u8, u8, u8),
+    pub horizon: u32,
+    pub precedence: &'a str,
+    pub heading: &'a str,
+    pub modes: &'a str,
+    pub amounts: &'a str,
+    /// The number of rows of the calendar, and the rows; empty where there is none.
+    pub calendar: &'a str,
 }
 
 const STARS: &str = "************************************************************************\n";
@@ -55,11 +57,17 @@ fn append_parts(text: &mut String, worked: &Worked<'_>) -> Result<(), AllocError
     text.push_str(STARS)?;
     text.push_str("RESOURCEAVAILABILITIES:\n")?;
     text.push_str(worked.amounts)?;
-    text.push_str(STARS)
+    text.push_str(STARS)?;
+    if !worked.calendar.is_empty() {
+        text.push_str("CALENDAR:\nresource from to capacity\n")?;
+        text.push_str(worked.calendar)?;
+        text.push_str(STARS)?;
+    }
+    Ok(())
 }
 
 /// The canonical text of a project.
-fn canonical_text(alloc: Global, worked: &Worked<'_>) -> Result<String, AllocError> {
+pub fn canonical_text(alloc: Global, worked: &Worked<'_>) -> Result<String, AllocError> {
     let mut text = String::from_str(alloc, STARS)?;
     append_header(alloc, &mut text, worked)?;
     text.push_str(STARS)?;
@@ -68,26 +76,27 @@ fn canonical_text(alloc: Global, worked: &Worked<'_>) -> Result<String, AllocErr
 }
 
 /// Reads a project from its text, and compares its canonical text.
-fn check_printed<R: Abort + AllocGlobal>(rt: &R, text: &[u8], canonical: &str) {
+pub fn check_printed<R: Abort + AllocGlobal>(rt: &R, text: &[u8], canonical: &str) {
     let project = read_project(rt.alloc(), text).expect(rt, "a project");
     let printed = print_project(rt.alloc(), &project).expect(rt, "memory");
     assert_eq!(rt; printed.as_slice(), canonical.as_bytes());
 }
 
 /// A canonical text is read as the project that is printed as it.
-fn check_canonical<R: Abort + AllocGlobal>(rt: &R, worked: &Worked<'_>) {
+pub fn check_canonical<R: Abort + AllocGlobal>(rt: &R, worked: &Worked<'_>) {
     let text = canonical_text(rt.alloc(), worked).expect(rt, "memory");
     check_printed(rt, text.as_bytes(), text.as_str());
 }
 
 /// Two jobs ask for one resource between a first and a last job.
-const ONE_RESOURCE: Worked<'static> = Worked {
+pub const ONE_RESOURCE: Worked<'static> = Worked {
     counts: (4, 1, 0),
     horizon: 5,
     precedence: "1 1 2 2 3\n2 1 1 4\n3 1 1 4\n4 1 0\n",
     heading: "jobnr. mode duration R 1",
     modes: "1 1 0 0\n2 1 3 2\n3 1 2 2\n4 1 0 0\n",
     amounts: "R 1\n3\n",
+    calendar: "",
 };
 
 /// Two of four jobs have two modes, and there is a budget.
@@ -98,6 +107,7 @@ const TWO_MODES: Worked<'static> = Worked {
     heading: "jobnr. mode duration R 1 N 1",
     modes: "1 1 0 0 0\n2 1 2 1 3\n2 4 1 1\n3 1 2 1 3\n2 4 1 1\n4 1 0 0 0\n",
     amounts: "R 1 N 1\n2 4\n",
+    calendar: "",
 };
 
 /// Three jobs of duration 2 stand side by side, and one can run at a time.
@@ -108,6 +118,7 @@ const THREE_SIDE_BY_SIDE: Worked<'static> = Worked {
     heading: "jobnr. mode duration R 1",
     modes: "1 1 0 0\n2 1 2 1\n3 1 2 1\n4 1 2 1\n5 1 0 0\n",
     amounts: "R 1\n1\n",
+    calendar: "",
 };
 
 /// One of six jobs has two modes.
@@ -118,6 +129,7 @@ const ONE_CHOICE: Worked<'static> = Worked {
     heading: "jobnr. mode duration R 1 N 1",
     modes: "1 1 0 0 0\n2 1 1 1 3\n2 1 2 1\n3 1 1 1 0\n4 1 3 2 0\n5 1 2 2 0\n6 1 0 0 0\n",
     amounts: "R 1 N 1\n3 10\n",
+    calendar: "",
 };
 
 /// Two jobs that may change places come before two others.
@@ -128,6 +140,7 @@ const TWINS: Worked<'static> = Worked {
     heading: "jobnr. mode duration R 1",
     modes: "1 1 0 0\n2 1 1 1\n3 1 1 1\n4 1 3 2\n5 1 2 2\n6 1 0 0\n",
     amounts: "R 1\n3\n",
+    calendar: "",
 };
 
 /// Two jobs that wait for nothing need two nonrenewable resources.
@@ -138,6 +151,7 @@ const TWO_BUDGETS: Worked<'static> = Worked {
     heading: "jobnr. mode duration N 1 N 2",
     modes: "1 1 1 3 0\n2 1 0 3\n2 1 1 3 0\n2 1 0 3\n",
     amounts: "N 1 N 2\n3 3\n",
+    calendar: "",
 };
 
 /// Jobs come before jobs of lower numbers.
@@ -148,6 +162,7 @@ const LATER_FIRST: Worked<'static> = Worked {
     heading: "jobnr. mode duration R 1",
     modes: "1 1 0 0\n2 1 0 0\n3 1 0 0\n4 1 3 2\n5 1 2 2\n",
     amounts: "R 1\n3\n",
+    calendar: "",
 };
 
 /// Two jobs of duration 0, and no resource.
@@ -158,6 +173,7 @@ const NO_RESOURCE: Worked<'static> = Worked {
     heading: "jobnr. mode duration",
     modes: "1 1 0\n2 1 0\n",
     amounts: "",
+    calendar: "",
 };
 
 /// As `ONE_RESOURCE`, with room for both jobs at once.
@@ -192,6 +208,7 @@ const GREATEST_NUMBERS: Worked<'static> = Worked {
     heading: "jobnr. mode duration R 1",
     modes: "1 1 10000 1000000\n",
     amounts: "R 1\n1000000\n",
+    calendar: "",
 };
 
 /// Eighteen jobs, most of them in a short and a cheap mode, with two resources of each kind.
@@ -254,6 +271,7 @@ const EIGHTEEN_JOBS: Worked<'static> = Worked {
 18 1 0 0 0 0 0
 ",
     amounts: "R 1 R 2 N 1 N 2\n14 10 70 45\n",
+    calendar: "",
 };
 
 /// As `EIGHTEEN_JOBS`, with a smaller budget.
@@ -374,6 +392,7 @@ fn the_canonical_text_of_the_most_jobs_is_printed(rt: HostRuntime) {
         heading: "jobnr. mode duration",
         modes: rows.as_str(),
         amounts: "",
+        calendar: "",
     };
     check_canonical(&rt, &worked);
 }

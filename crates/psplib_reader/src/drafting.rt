@@ -53,6 +53,7 @@ pub fn draft_of(alloc: Global, content: Content) -> Result<Draft, NoMemory>
         rows,
         modes,
         amounts,
+        calendar,
         ..
     } = content;
     let jobs = draft_jobs(alloc, rows.as_slice(), modes)?;
@@ -60,5 +61,6 @@ pub fn draft_of(alloc: Global, content: Content) -> Result<Draft, NoMemory>
         jobs,
         capacities: amounts.capacities,
         budgets: amounts.budgets,
+        calendar,
     })
 }

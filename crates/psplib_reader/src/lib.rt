@@ -2,6 +2,8 @@
 #![tactic(auto)]
 
 #[cfg(test)]
+mod calendar_tests;
+#[cfg(test)]
 mod canonical_tests;
 mod cycle;
 mod drafting;
