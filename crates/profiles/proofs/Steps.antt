@@ -1,15 +1,17 @@
 -- Usage, end and profile, one entry further.
-use Rattle.std.proofs.Common.{◌≡◌, ℕ, ◌+◌, ◌-◌, ◌<◌, ◌≤◌, max, arith, sym, ap, subst, ◌∙◌, List, [], ◌∷◌, ◌++◌, length, get_or, take}
+use Rattle.std.proofs.Common.{◌≡◌, ℕ, ◌+◌, ◌-◌, ◌<◌, ◌≤◌, max, min, inl, inr, arith, sym, ap, subst, ◌∙◌, List, [], ◌∷◌, ◌++◌, length, get_or, take}
 use Rattle.std.specs.Prelude.{sum_by}
+use Rattle.std.proofs.lemmas.Bool.{cases_lt}
 use Rattle.std.proofs.lemmas.List.Sums.{sum_by_more_le}
 use Rattle.std.proofs.lemmas.List.{take_more}
 use Rattle.std.proofs.lemmas.List.Elements.{All-get_or, All-push}
 use Rattle.rcpsp_model.specs.declared.parts.Entry.{Entry}
 use Rattle.rcpsp_model.specs.Project.{Project, capacity, IsRenewable, IsWithinLimits}
-use Rattle.rcpsp_model.specs.Schedule.{usage, finish, end_of, cap, IsOf, AreOf, KeepsCapacities}
+use Rattle.rcpsp_model.specs.Schedule.{usage, finish, end_of, cap, calm, IsOf, AreOf, KeepsCapacities}
 use Rattle.rcpsp_model.specs.Tree.{Fits}
 use Rattle.rcpsp_model.proofs.FrontLemmas.{end-push, keeps-push}
-use Rattle.rcpsp_model.proofs.Usage.{load, usage-total, cap_law}
+use Rattle.rcpsp_model.proofs.Usage.{load, usage-total}
+use Rattle.rcpsp_model.proofs.CalendarLemmas.{cap_law, whole_law}
 use Rattle.rcpsp_model.proofs.Lists.{sum_by-total}
 use Rattle.profiles.specs.Placed.{Placed, IsProfileOf}
 
@@ -36,6 +38,13 @@ capacity-limit P w k r = All-get_or (λ c. c ≤ 1000000) P.capacities (k - 1) 0
 -- there is never more than 1,000,000 of a resource
 pub cap-limit : (P : Project) → IsWithinLimits P → (k t : ℕ) → IsRenewable P k → cap P k t ≤ 1000000
 cap-limit P w k t r = let most = cap_law P k t in let whole = capacity-limit P w k r in omega arith
+
+-- what there is in a period is what there is in the same period or the first calm one, whichever comes first
+pub cap-by_calm : (P : Project) (k t : ℕ) → cap P k (min t (calm P)) ≡ cap P k t
+cap-by_calm P k t = elim (cases_lt t (calm P)) [
+  | inl before ↦ ap (cap P k) (let e : min t (calm P) ≡ t = omega arith in e)
+  | inr after ↦ ap (cap P k) (let e : min t (calm P) ≡ calm P = omega arith in e) ∙ whole_law P k (calm P) (omega arith) ∙ sym (whole_law P k t after)
+]
 
 -- an entry of the project that fits leaves a profile of the project
 pub profile-push : (P : Project) (old new : Placed) (e : Entry) → IsProfileOf P old → IsOf P e → Fits P old.entries e.job e.mode e.start → new.entries ≡ old.entries ++ e ∷ [] → IsProfileOf P new

@@ -6,7 +6,7 @@ ghost use Rattle.rcpsp_model.specs.Modes.{IsExecutable};
 ghost use Rattle.rcpsp_model.specs.Tree.{Fits};
 ghost use Rattle.profiles.specs.Room.{HasRoom, FitsFrom};
 
-use crate::capacity::{calm, capacity_in};
+use crate::capacity::capacity_in;
 use project_net::Project;
 use rcpsp_model::Entry;
 
@@ -99,7 +99,7 @@ pub fn earliest_beside(
     ensures least { IfSome result (IsLeast (FitsFrom project.now entries.now job mode floor)) }
     ensures some { IsSome result ↔ IsExecutable project.now job mode }
 {
-    let last = end(project, entries).max(calm(project)).max(floor);
+    let last = end(project, entries).max(project.calm()).max(floor);
     for start in floor..last {
         if fits_beside(project, entries, job, mode, start) {
             return Some(start);

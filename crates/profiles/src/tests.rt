@@ -32,6 +32,7 @@ fn project_of(
             jobs: List::from_vec(all),
             capacities: List::from_vec(capacities.to_vec(alloc)?),
             budgets: List::new(alloc),
+            calendar: List::new(alloc),
         },
     )?)
 }

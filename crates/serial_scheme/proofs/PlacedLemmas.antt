@@ -15,7 +15,8 @@ use Rattle.rcpsp_model.specs.Tree.{has_job, IsEligible, Fits, InTurn, entry_at}
 use Rattle.rcpsp_model.specs.Plan.{ModeRule, CanRun, IsPlacedInTurn, IsScheduledNext, IsUrgent, IsSerialPlan}
 use Rattle.rcpsp_model.proofs.Lists.{In, In-push, In-filter, filter-In, All-from_In, In-All, total, total-le}
 use Rattle.rcpsp_model.proofs.Entries.{DistinctJobs, distinct-push}
-use Rattle.rcpsp_model.proofs.Usage.{finish-le-end, end-le, calm_law}
+use Rattle.rcpsp_model.proofs.Usage.{finish-le-end, end-le}
+use Rattle.rcpsp_model.proofs.CalendarLemmas.{calm_law}
 use Rattle.rcpsp_model.proofs.Successors.{before-job}
 use Rattle.rcpsp_model.proofs.FrontLemmas.{in_turn, keeps-push, end-push, duration-limit, fits-past_end, fits-executable, part-jobs, spot, each}
 use Rattle.rcpsp_model.proofs.Sound.{sound-push}
@@ -124,7 +125,7 @@ pub scheduled-end : (P : Project) → IsProject P → (Rule : ModeRule) (F : Lis
 unfolding job_count
 scheduled-end P p Rule F t =
     let soon = ends-soon P p.limits Rule F t in let n = length-placing P F (scheduled-placing P p.acyclic Rule F t) in
-    let few = p.limits.few_jobs in let calm_soon = calm_law P in omega arith
+    let few = p.limits.few_jobs in let calm_soon = calm_law P p.limits in omega arith
 
 pub scheduled-of : (P : Project) → IsProject P → (Rule : ModeRule) (F : List Entry) → InTurn (IsScheduledNext P Rule) [] F → AreOf P F
 scheduled-of P p Rule F t =
@@ -221,7 +222,7 @@ pub start-limit : (P : Project) → IsProject P → (Rule : ModeRule) (F : List 
 start-limit P p Rule F j m t turn can least =
     let end = max (end_of P F) (calm P) in
     let soon : t ≤ end = least.least end ((let floor = floor-limit P F j in omega arith), fits-past_end P F j m end can (omega arith) (omega arith)) in
-    let far = scheduled-end P p Rule F turn in let calm_soon = calm_law P in omega arith
+    let far = scheduled-end P p Rule F turn in let calm_soon = calm_law P p.limits in omega arith
 
 -- while a job is open, not all are placed
 pub length-open : (P : Project) → IsAcyclic P → (Rule : ModeRule) (placed : JobSet) (F : List Entry) (j : ℕ) → SoFar P Rule placed F → IsMostUrgent P (member placed) j → length F < job_count P

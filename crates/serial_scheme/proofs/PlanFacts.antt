@@ -4,7 +4,7 @@ use Rattle.std.specs.Prelude.{Option, Some, None, MatchOption, IfSome, IfNone, A
 use Rattle.rcpsp_model.specs.declared.parts.Entry.{Entry}
 use Rattle.rcpsp_model.specs.declared.parts.Placing.{Placing}
 use Rattle.rcpsp_model.specs.Project.{Project, job_count, nonrenewables, IsMode, IsAcyclic, IsProject}
-use Rattle.rcpsp_model.specs.Schedule.{calm, end_of, entries, entries_from, IsFeasible, KeepsBudgets}
+use Rattle.rcpsp_model.specs.Schedule.{end_of, entries, entries_from, IsFeasible, KeepsBudgets}
 use Rattle.rcpsp_model.specs.Modes.{IsExecutable}
 use Rattle.rcpsp_model.specs.Tree.{InTurn}
 use Rattle.rcpsp_model.specs.Plan.{ModeRule as Rules, IsShortestMode, IsCheapestMode, IsPlacedInTurn, IsScheduledNext, IsSerialPlan, IsPlanBy, HasNoPlanBy, IsFirstPlan}
@@ -16,6 +16,7 @@ use Rattle.rcpsp_model.proofs.FrontLemmas.{in_turn}
 use Rattle.rcpsp_model.proofs.PlanLemmas.{plan-entries, plan_law, no_mode_law}
 use Rattle.rcpsp_model.proofs.OnePlanLemmas.{one_plan_law}
 use Rattle.rcpsp_model.proofs.Merged.{same-placings}
+use Rattle.rcpsp_model.proofs.CalendarLemmas.{calm_law}
 use Rattle.serial_scheme.specs.declared.mode_rule.ModeRule.{ModeRule}
 use Rattle.serial_scheme.specs.declared.mode_rule.ModeRule.TheVariants.{Shortest, Cheapest}
 use Rattle.serial_scheme.specs.Rules.{HasMode, SomeHasNoMode}
@@ -48,17 +49,13 @@ plan_by-one rule P acyclic r s p q =
 
 pub record PlanFacts (P : Project) (s : List Placing) : Type 0 where
   pub feasible : IsFeasible P s
-  pub end : end_of P (entries s) ≤ 1280000
+  pub end : end_of P (entries s) ≤ 1290000
   pub starts : All (λ (q : Placing). q.start ≤ 999999999) s
 
 entry-with : (i : ℕ) (ps : List Placing) (q : Placing) → In ps q → (e : Entry) × In (entries_from i ps) e × (e.start ≡ q.start)
 entry-with i [] q m = absurd m
 entry-with i (p ∷ ps) q (inl e) = (record { job = i; mode = p.mode; start = p.start }, inl refl, ap (λ (x : Placing). x.start) e)
 entry-with i (p ∷ ps) q (inr m) = let r = entry-with (i + 1) ps q m in (r.0, inr r.1, r.2)
-
-calm-zero : (P : Project) → calm P ≡ 0
-unfolding calm
-calm-zero P = refl
 
 pub plan-facts : (P : Project) → IsProject P → (Rule : Rules) (s : List Placing) → IsPlanBy P Rule s → PlanFacts P s
 unfolding job_count
@@ -67,7 +64,7 @@ plan-facts P project Rule s p =
     let soon = ends-soon P project.limits Rule p.placed turn in
     let few = length-placing P p.placed (scheduled-placing P project.acyclic Rule p.placed turn) in
     let jobs = project.limits.few_jobs in
-    let calm_is = calm-zero P in
+    let calm_soon = calm_law P project.limits in
     let law = plan_law P p.placed project.acyclic (in_turn-weaker (IsScheduledNext P Rule) (IsPlacedInTurn P) (as-placed P Rule) [] p.placed turn) p.serial.whole p.budgets in
     let end : end_of P (entries s) ≤ end_of P p.placed = end-le P (entries s) (end_of P p.placed) (λ e i. finish-le-end P p.placed e (in-placed P Rule s p e i)) in
     record {
@@ -134,7 +131,7 @@ pub first-feasible : (P : Project) → IsProject P → (o : Option (List Placing
 first-feasible P project None f = tt
 first-feasible P project (Some s) f = (first-facts P project s f).feasible
 
-pub first-end : (P : Project) → IsProject P → (o : Option (List Placing)) → IsFirstPlan P o → IfSome o (λ s. end_of P (entries s) ≤ 1280000)
+pub first-end : (P : Project) → IsProject P → (o : Option (List Placing)) → IsFirstPlan P o → IfSome o (λ s. end_of P (entries s) ≤ 1290000)
 first-end P project None f = tt
 first-end P project (Some s) f = (first-facts P project s f).end
 

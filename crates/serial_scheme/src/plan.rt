@@ -58,7 +58,7 @@ fn earlier(p: &Project, first: Option<Schedule>, second: Option<Schedule>) -> Op
 pub fn first_plan(alloc: Global, p: &Project) -> Result<Option<Schedule>, NoMemory>
     ensures first { IfOk result (IsFirstPlan p.now) }
     ensures feasible { IfOk result (λ plan. IfSome plan (IsFeasible p.now)) }
-    ensures end { IfOk result (λ plan. IfSome plan (λ s. end_of p.now (entries s) ≤ 1280000)) }
+    ensures end { IfOk result (λ plan. IfSome plan (λ s. end_of p.now (entries s) ≤ 1290000)) }
 
     // Without a nonrenewable resource only a job that has no executable mode keeps the rules from a plan.
     ensures infeasible { IfOk result (λ plan. IfNone plan (nonrenewables p.now ≡ 0 → NoneIsFeasible p.now)) }

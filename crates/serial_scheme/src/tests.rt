@@ -55,6 +55,7 @@ fn draft(alloc: Global, case: &Case) -> Result<Draft, AllocError> {
         jobs: List::from_vec(jobs),
         capacities,
         budgets,
+        calendar: List::new(alloc),
     })
 }
 
