@@ -1,5 +1,5 @@
-pub mod Entries
-pub mod Falling
 pub mod JobSets
+pub mod Compared
+pub mod Tables
 pub mod Indexed
-pub mod Following
+pub mod JudgeSteps

@@ -1,3 +1,6 @@
-pub mod Record
-pub mod Parts
+pub mod Line
+pub mod Table
 pub mod Index
+pub mod Facts
+pub mod Parts
+pub mod Judged

@@ -1,30 +1,54 @@
--- What dominance asks beside the jobs, the last starts and the ends, part by part.
-use Rattle.std.specs.Prelude.{◌≡◌, ℕ, ◌≤◌, max, false, List, All}
-use Rattle.rcpsp_model.specs.declared.parts.Entry.{Entry}
-use Rattle.rcpsp_model.specs.Project.{Project, Before, IsRenewable, IsNonrenewable}
-use Rattle.rcpsp_model.specs.Schedule.{finish, usage, used}
-use Rattle.rcpsp_model.specs.Tree.{has_job}
+-- What dominance asks beside the jobs, by the numbers and the active jobs of both fronts.
+use Rattle.std.specs.Prelude.{◌≡◌, ℕ, ◌-◌, ◌≤◌, ◌⊎◌, List, [], length, slice_index, All, Contains}
+use Rattle.rcpsp_model.specs.Project.{Project, Before, IsRenewable, IsNonrenewable, nonrenewables}
+use Rattle.precedence_tree.specs.declared.active.Active.{Active}
+use Rattle.precedence_tree.specs.Active.{IsNamed, AreByFinish, load_at}
+use Rattle.precedence_tree.specs.Node.{joined}
+use Rattle.cutset_store.specs.declared.facts.RecordFacts.{RecordFacts}
+use Rattle.cutset_store.specs.declared.facts.NodeFacts.{NodeFacts}
 
--- A needs no more of a nonrenewable resource than B
-abbrev pub NeedsNoMore : Project → List Entry → List Entry → Type 0
-NeedsNoMore P A B = (l : ℕ) → IsNonrenewable P l → used P A l ≤ used P B l
+-- of each nonrenewable resource the needs are no more than the others
+abbrev pub NeedsNoMore : Project → List ℕ → List ℕ → Type 0
+NeedsNoMore P used other = (l : ℕ) → IsNonrenewable P l → slice_index used (l - 1) ≤ slice_index other (l - 1)
 
--- in the period t A takes no more of a renewable resource than B
-abbrev pub TakesNoMoreIn : Project → List Entry → List Entry → ℕ → Type 0
-TakesNoMoreIn P A B t = (k : ℕ) → IsRenewable P k → usage P A k t ≤ usage P B k t
+-- one of the jobs is this one, and finishes at the period or later
+abbrev pub HasFinish : List Active → ℕ → ℕ → Type 0
+HasFinish ys j from = (a : Active) × Contains ys a × (a.entry.job ≡ j) × (from ≤ a.finish)
 
--- nor in any period from the given one on
-abbrev pub TakesNoMoreFrom : Project → List Entry → List Entry → ℕ → Type 0
-TakesNoMoreFrom P A B from = (k t : ℕ) → IsRenewable P k → from ≤ t → usage P A k t ≤ usage P B k t
+-- the job is done by the period, no job waits for it, or it is done no later among the others
+abbrev pub InTime : Project → List Active → ℕ → Active → Type 0
+InTime P ys last a = (a.finish ≤ last) ⊎ ((j : ℕ) → Before P a.entry.job j → ⊥) ⊎ HasFinish ys a.entry.job a.finish
 
--- the entry a finishes by the period t, or no later than the entry of its job in B
-abbrev pub FinishesInTime : Project → List Entry → ℕ → Entry → Type 0
-FinishesInTime P B t a = All (λ b. a.job ≡ b.job → finish P a ≤ max (finish P b) t) B
+-- so is each of the jobs
+abbrev pub HoldsUpNone : Project → List Active → List Active → ℕ → Type 0
+HoldsUpNone P xs ys last = All (InTime P ys last) xs
 
--- no job that A lacks waits longer, from t on, for the entry a of A than for the entry of its job in B
-abbrev pub HoldsUpNoLonger : Project → List Entry → List Entry → ℕ → Entry → Type 0
-HoldsUpNoLonger P A B t a = (j : ℕ) → Before P a.job j → has_job A j ≡ false → FinishesInTime P B t a
+-- from the period on the jobs take no more of the resource than the others
+abbrev pub TakesNoMoreOf : Project → List Active → List Active → ℕ → ℕ → Type 0
+TakesNoMoreOf P xs ys last k = (t : ℕ) → last ≤ t → load_at P xs k t ≤ load_at P ys k t
 
--- nor for any entry of A
-abbrev pub HoldsUpNone : Project → List Entry → List Entry → ℕ → Type 0
-HoldsUpNone P A B t = All (HoldsUpNoLonger P A B t) A
+-- nor of any renewable resource
+abbrev pub TakesNoMore : Project → List Active → List Active → ℕ → Type 0
+TakesNoMore P xs ys last = (k : ℕ) → IsRenewable P k → TakesNoMoreOf P xs ys last k
+
+-- the record's last start, end and needs are no more than the node's, it holds up no job longer, and from the node's last
+-- start on it takes no more
+pub record Beats (P : Project) (a : RecordFacts) (b : NodeFacts) : Type 0 where
+  pub last : a.last ≤ b.last
+  pub end : a.end ≤ b.end
+  pub needs : NeedsNoMore P a.used.now b.used
+  pub finishes : HoldsUpNone P a.active.now (joined b.newest b.older.now) b.last
+  pub usage : TakesNoMore P a.active.now (joined b.newest b.older.now) b.last
+
+-- jobs in modes of the project, no more than it may have
+pub record AreJobs (P : Project) (xs : List Active) : Type 0 where
+  pub named : All (IsNamed P) xs
+  pub few : length xs ≤ 128
+
+-- both are of the project
+pub record AreComparable (P : Project) (a : RecordFacts) (b : NodeFacts) : Type 0 where
+  pub wide : nonrenewables P ≤ length a.used.now
+  pub active : AreJobs P a.active.now
+  pub order : AreByFinish a.active.now
+  pub newest : All (IsNamed P) (joined b.newest [])
+  pub older : AreJobs P b.older.now

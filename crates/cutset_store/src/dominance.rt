@@ -1,50 +1,83 @@
-ghost use Rattle.std.specs.Prelude.{◌≡◌, ℕ, ◌≤◌, ◌↔◌, IsTrue, List};
+ghost use Rattle.std.specs.Prelude.{◌≡◌, ℕ, ◌≤◌, ◌↔◌, IsTrue, List, length};
 ghost use Rattle.rcpsp_model.specs.declared.parts.Placing.{Placing};
-ghost use Rattle.rcpsp_model.specs.Tree.{has_job, IsFront, Completes};
+ghost use Rattle.rcpsp_model.specs.Project.{nonrenewables};
+ghost use Rattle.rcpsp_model.specs.Tree.{has_job, Completes};
 ghost use Rattle.rcpsp_model.specs.Dominance.{Dominates};
 ghost use Rattle.rcpsp_model.specs.Laws.{Replaces};
+ghost use Rattle.precedence_tree.specs.Base.{IsBaseOf};
 ghost use Rattle.precedence_tree.specs.Node.{StandsFor};
+ghost use Rattle.cutset_store.specs.Parts.{NeedsNoMore, AreComparable, Beats};
 
-use crate::finishes::{ends_by, holds_up_none};
-use crate::needs::needs_no_more;
+use crate::facts::{NodeFacts, RecordFacts, facts_of_node, facts_of_record};
+use crate::finishes::holds_up_none;
 use crate::record::CutRecord;
-use crate::usage::takes_no_more_from;
+use crate::usage::takes_no_more;
 use precedence_tree::Node;
 use project_net::Project;
 use rcpsp_model::dominance;
 
+/// Whether the needs are no more than the others.
+fn needs_no_more(project: &Project, used: &[u32], other: &[u32]) -> bool
+    requires used { nonrenewables project.now ≤ length used.now }
+    requires other { nonrenewables project.now ≤ length other.now }
+    ensures { IsTrue result ↔ NeedsNoMore project.now used.now other.now }
+{
+    for resource in 1..project.nonrenewables() + 1 {
+        let place = resource as usize - 1;
+        if other[place] < used[place] {
+            return false;
+        }
+    }
+    true
+}
+
+/// Whether a record dominates a node of the same jobs: the numbers are compared first, then the finishes and the usages of
+/// the active jobs.
+pub fn beats(project: &Project, a: &RecordFacts<'_>, b: &NodeFacts<'_>) -> bool
+    requires { AreComparable project.now a.now b.now }
+    ensures { IsTrue result ↔ Beats project.now a.now b.now }
+{
+    project.known();
+    if b.last < a.last {
+        return false;
+    }
+    if b.end < a.end {
+        return false;
+    }
+    if !needs_no_more(project, a.used, &b.used) {
+        return false;
+    }
+    holds_up_none(project, a.active, b.newest, b.older, b.last)
+        && takes_no_more(project, a.active, b.newest, b.older, b.last)
+}
+
 /// Whether the record has the jobs of the node.
 fn has_its_jobs(project: &Project, a: &CutRecord, b: &Node) -> bool
-    requires front { IsFront project.now a.now }
+    requires record { IsBaseOf project.now a.now }
     requires node { StandsFor project.now b.now }
-    ensures { IsTrue result ↔ ((j : ℕ) → has_job a.now j ≡ has_job b.now.front j) }
+    ensures { IsTrue result ↔ ((j : ℕ) → has_job a.now.front j ≡ has_job b.now.front j) }
 {
     let _of_any = project;
-    a.placed() == b.placed()
+    a.base().placed == b.placed()
 }
 
 /// Whether the record's front dominates that of the node (after Demeulemeester and Herroelen 1992).
 ///
 /// What costs least is compared first: the sets, the last starts and the ends, then needs, finishes and usages.
 pub fn dominates(project: &Project, a: &CutRecord, b: &Node) -> bool
-    requires front { IsFront project.now a.now }
+    requires record { IsBaseOf project.now a.now }
     requires node { StandsFor project.now b.now }
-    ensures value { IsTrue result ↔ Dominates project.now a.now b.now.front }
+    ensures value { IsTrue result ↔ Dominates project.now a.now.front b.now.front }
 
     // What completes the node can be replaced, at no later end, by what completes the record's front.
-    ensures replaces { IsTrue result → (s : List Placing) → Completes project.now b.now.front s → Replaces project.now a.now s }
+    ensures replaces { IsTrue result → (s : List Placing) → Completes project.now b.now.front s → Replaces project.now a.now.front s }
 {
     project.known();
     dominance();
-    let last = b.last();
-    if !has_its_jobs(project, a, b) || last < a.last() {
+    if !has_its_jobs(project, a, b) {
         return false;
     }
-    let front = a.entries();
-    let other = b.entries();
-    if !ends_by(project, front, b.end()) || !needs_no_more(project, front, other) {
-        return false;
-    }
-    holds_up_none(project, front, a.placed(), other, last)
-        && takes_no_more_from(project, front, other, last)
+    let record = facts_of_record(project, a);
+    let node = facts_of_node(project, b);
+    beats(project, &record, &node)
 }

@@ -1,81 +1,75 @@
-ghost use Rattle.std.specs.Prelude.{◌≡◌, ℕ, ◌≤◌, ◌↔◌, IsTrue, true};
-ghost use Rattle.sched_base.specs.JobSet.{member};
-ghost use Rattle.rcpsp_model.specs.Project.{Before, IsJob};
-ghost use Rattle.rcpsp_model.specs.Schedule.{finish, end_of, IsOf, AreOf};
-ghost use Rattle.cutset_store.specs.Record.{HasJobs};
-ghost use Rattle.cutset_store.specs.Parts.{FinishesInTime, HoldsUpNone};
+ghost use Rattle.std.specs.Prelude.{◌≡◌, ℕ, ◌≤◌, ◌↔◌, [], All, IsTrue};
+ghost use Rattle.rcpsp_model.specs.Project.{IsJob, Before};
+ghost use Rattle.precedence_tree.specs.Active.{IsNamed};
+ghost use Rattle.precedence_tree.specs.Node.{joined};
+ghost use Rattle.cutset_store.specs.Parts.{HasFinish, InTime, HoldsUpNone};
 
+use precedence_tree::Active;
 use project_net::Project;
-use rcpsp_model::Entry;
-use sched_base::JobSet;
 
-/// The first period after the entry; at most 1,000,009,999.
-pub fn finish_of(project: &Project, entry: &Entry) -> u32
-    requires { IsOf project.now entry.now }
-    ensures value { result ≡ finish project.now entry.now }
-    ensures limit { result ≤ 1000009999 }
+/// Whether one of the jobs is this one, and finishes at the period or later.
+fn has_finish(active: &[Active], job: u8, from: u32) -> bool
+    ensures { IsTrue result ↔ HasFinish active.now job from }
 {
-    entry.start + project.duration(entry.job, entry.mode)
-}
-
-/// Whether each of the entries finishes by the period.
-pub fn ends_by(project: &Project, entries: &[Entry], period: u32) -> bool
-    requires { AreOf project.now entries.now }
-    ensures { IsTrue result ↔ end_of project.now entries.now ≤ period }
-{
-    for entry in entries {
-        if period < finish_of(project, entry) {
-            return false;
+    for place in 0..active.len() {
+        let other = active[place];
+        if other.entry.job == job && from <= other.finish {
+            return true;
         }
     }
-    true
+    false
 }
 
-/// Whether each job that waits for this one is in the set.
-fn is_followed_within(project: &Project, job: u8, placed: JobSet) -> bool
+/// The same of one job that there may be.
+fn newest_has_finish(newest: Option<Active>, job: u8, from: u32) -> bool
+    ensures { IsTrue result ↔ HasFinish (joined newest []) job from }
+{
+    match newest {
+        Some(active) => has_finish(&[active], job, from),
+        None => has_finish(&[], job, from),
+    }
+}
+
+/// Whether no job waits for this one.
+fn is_last(project: &Project, job: u8) -> bool
     requires { IsJob project.now job }
-    ensures { IsTrue result ↔ ((j : ℕ) → Before project.now job j → member placed j ≡ true) }
+    ensures { IsTrue result ↔ ((j : ℕ) → Before project.now job j → ⊥) }
 {
     project.known();
-    project.succs(job).is_within(placed)
+    project.succs(job).next_after(0).is_none()
 }
 
-/// Whether the entry finishes by the period, or no later than its job does among the others.
-fn finishes_in_time(project: &Project, entry: &Entry, others: &[Entry], period: u32) -> bool
-    requires entry { IsOf project.now entry.now }
-    requires others { AreOf project.now others.now }
-    ensures { IsTrue result ↔ FinishesInTime project.now others.now period entry.now }
+/// Whether the job is done by the period, no job waits for it, or it is done no later among the others.
+fn is_in_time(
+    project: &Project,
+    active: Active,
+    newest: Option<Active>,
+    older: &[Active],
+    last: u32,
+) -> bool
+    requires { IsNamed project.now active }
+    ensures { IsTrue result ↔ InTime project.now (joined newest older.now) last active }
 {
-    let finish = finish_of(project, entry);
-    if finish <= period {
+    let job = active.entry.job;
+    if active.finish <= last || is_last(project, job) {
         return true;
     }
-    for other in others {
-        if other.job == entry.job && finish_of(project, other) < finish {
-            return false;
-        }
-    }
-    true
+    newest_has_finish(newest, job, active.finish) || has_finish(older, job, active.finish)
 }
 
-/// Whether no job that the front lacks waits longer for one of its jobs than in the other front, from the period on.
+/// Whether no job waits longer for one of the jobs than among the others, from the period on.
 pub fn holds_up_none(
     project: &Project,
-    front: &[Entry],
-    placed: JobSet,
-    other: &[Entry],
-    period: u32,
+    active: &[Active],
+    newest: Option<Active>,
+    older: &[Active],
+    last: u32,
 ) -> bool
-    requires front { AreOf project.now front.now }
-    requires placed { HasJobs placed front.now }
-    requires other { AreOf project.now other.now }
-    ensures { IsTrue result ↔ HoldsUpNone project.now front.now other.now period }
+    requires { All (IsNamed project.now) active.now }
+    ensures { IsTrue result ↔ HoldsUpNone project.now active.now (joined newest older.now) last }
 {
-    project.known();
-    for entry in front {
-        if !finishes_in_time(project, entry, other, period)
-            && !is_followed_within(project, entry.job, placed)
-        {
+    for place in 0..active.len() {
+        if !is_in_time(project, active[place], newest, older, last) {
             return false;
         }
     }

@@ -3,16 +3,19 @@
 #![tactic(auto)]
 
 mod dominance;
+mod facts;
 mod finishes;
 mod index;
 mod judging;
-mod needs;
-mod places;
+mod line;
 mod record;
+mod row;
+mod table;
 #[cfg(test)]
 mod tests;
 mod usage;
 
 pub use dominance::dominates;
-pub use index::Index;
+pub use index::{Found, Index};
 pub use record::CutRecord;
+pub use table::SetPlace;

@@ -1,8 +1,8 @@
 ghost use Rattle.std.specs.Prelude.{◌<◌, All, IfOk};
-ghost use Rattle.rcpsp_model.specs.Tree.{IsFront};
+ghost use Rattle.precedence_tree.specs.Base.{IsBaseOf};
 ghost use Rattle.precedence_tree.specs.Node.{StandsFor};
 
-use crate::{CutRecord, Index, dominates};
+use crate::{CutRecord, Index, SetPlace, dominates};
 use precedence_tree::{Child, Node, child, eligible};
 use project_net::{Draft, DraftJob, Project};
 use rcpsp_model::Mode;
@@ -26,9 +26,10 @@ struct ProjectRow {
 /// A front by its jobs and modes.
 type FrontRow = &'static [(u8, u8)];
 
-/// Whether the first front dominates the second.
-#[derive(Clone, Copy)]
-struct DominanceRow {
+/// Whether the first of two fronts of a project dominates the second.
+struct PairRow {
+    name: &'static str,
+    project: &'static ProjectRow,
     front: FrontRow,
     other: FrontRow,
     dominates: bool,
@@ -64,6 +65,7 @@ fn draft_of(alloc: Global, row: &ProjectRow) -> Result<Draft, AllocError> {
         jobs: List::from_vec(jobs),
         capacities: List::from_vec(capacities),
         budgets: List::from_vec(budgets),
+        calendar: List::new(alloc),
     })
 }
 
@@ -75,6 +77,7 @@ fn project_of(alloc: Global, row: &ProjectRow) -> Result<Project, Fail> {
 /// The placed child of the node by the job in the mode.
 fn next(
     rt: &impl Abort,
+    alloc: Global,
     project: &Project,
     node: &Node,
     job: u8,
@@ -87,7 +90,7 @@ fn next(
     let open = eligible(project, node);
     assert!(rt; open.has(Job(job)));
     assert!(rt; project.has_mode(job, mode));
-    match child(project, node, job, mode)? {
+    match child(alloc, project, node, job, mode)? {
         Child::Placed(next) => Ok(next),
         Child::Shut { .. } => panic!(rt; "shut"),
     }
@@ -102,24 +105,11 @@ fn walk(
 ) -> Result<Node, NoMemory>
     ensures { IfOk result (StandsFor project.now) }
 {
-    let mut node = Node::root(alloc);
+    let mut node = Node::root();
     for (job, mode) in front {
-        node = next(rt, project, &node, *job, *mode)?;
+        node = next(rt, alloc, project, &node, *job, *mode)?;
     }
     Ok(node)
-}
-
-fn compare(
-    rt: &impl Abort,
-    alloc: Global,
-    project: &Project,
-    row: DominanceRow,
-) -> Result<(), NoMemory> {
-    let front = walk(rt, alloc, project, row.front)?;
-    let record = CutRecord::of(alloc, project, &front)?;
-    let other = walk(rt, alloc, project, row.other)?;
-    assert_eq!(rt; dominates(project, &record, &other), row.dominates);
-    Ok(())
 }
 
 /// Jobs 2 and 3 are twins, and jobs 4 and 5 wait for both.
@@ -135,49 +125,6 @@ const TWINS: ProjectRow = ProjectRow {
     budgets: &[],
 };
 
-/// Twins, other jobs, a later last start, and a job that is done later though another waits for it.
-const OF_TWINS: [DominanceRow; 6] = [
-    DominanceRow {
-        front: &[],
-        other: &[],
-        dominates: true,
-    },
-    DominanceRow {
-        front: &[(1, 1), (2, 1), (3, 1)],
-        other: &[(1, 1), (3, 1), (2, 1)],
-        dominates: true,
-    },
-    DominanceRow {
-        front: &[(1, 1), (3, 1), (2, 1)],
-        other: &[(1, 1), (2, 1), (3, 1)],
-        dominates: true,
-    },
-    DominanceRow {
-        front: &[(1, 1), (2, 1)],
-        other: &[(1, 1), (3, 1)],
-        dominates: false,
-    },
-    DominanceRow {
-        front: &[(1, 1), (2, 1), (3, 1), (4, 1), (5, 1)],
-        other: &[(1, 1), (2, 1), (3, 1), (5, 1), (4, 1)],
-        dominates: false,
-    },
-    DominanceRow {
-        front: &[(1, 1), (2, 1), (3, 1), (5, 1), (4, 1)],
-        other: &[(1, 1), (2, 1), (3, 1), (4, 1), (5, 1)],
-        dominates: false,
-    },
-];
-
-#[test]
-fn twins(rt: HostRuntime) -> Result<(), Fail> {
-    let project = project_of(rt.alloc(), &TWINS)?;
-    for row in &OF_TWINS {
-        compare(&rt, rt.alloc(), &project, *row)?;
-    }
-    Ok(())
-}
-
 /// The same, where job 2 has a second mode, which needs less and takes more.
 const NEEDY: ProjectRow = ProjectRow {
     jobs: &[
@@ -191,35 +138,79 @@ const NEEDY: ProjectRow = ProjectRow {
     budgets: &[10],
 };
 
-/// The same modes, a greater need, and a greater usage.
-const OF_NEEDY: [DominanceRow; 4] = [
-    DominanceRow {
-        front: &[(1, 1), (2, 1), (3, 1)],
-        other: &[(1, 1), (3, 1), (2, 1)],
+const PAIRS: [PairRow; 8] = [
+    PairRow {
+        name: "no job",
+        project: &TWINS,
+        front: &[],
+        other: &[],
         dominates: true,
     },
-    DominanceRow {
+    PairRow {
+        name: "twins in another order",
+        project: &TWINS,
+        front: &[(1, 1), (3, 1), (2, 1)],
+        other: &[(1, 1), (2, 1), (3, 1)],
+        dominates: true,
+    },
+    PairRow {
+        name: "other jobs",
+        project: &TWINS,
+        front: &[(1, 1), (2, 1)],
+        other: &[(1, 1), (3, 1)],
+        dominates: false,
+    },
+    PairRow {
+        name: "a later last start",
+        project: &TWINS,
+        front: &[(1, 1), (2, 1), (3, 1), (4, 1), (5, 1)],
+        other: &[(1, 1), (2, 1), (3, 1), (5, 1), (4, 1)],
+        dominates: false,
+    },
+    PairRow {
+        name: "a job that is done later, for which another waits",
+        project: &TWINS,
+        front: &[(1, 1), (2, 1), (3, 1), (5, 1), (4, 1)],
+        other: &[(1, 1), (2, 1), (3, 1), (4, 1), (5, 1)],
+        dominates: false,
+    },
+    PairRow {
+        name: "the same modes",
+        project: &NEEDY,
         front: &[(1, 1), (2, 2), (3, 1)],
         other: &[(1, 1), (3, 1), (2, 2)],
         dominates: true,
     },
-    DominanceRow {
+    PairRow {
+        name: "a greater need",
+        project: &NEEDY,
         front: &[(1, 1), (2, 1), (3, 1)],
         other: &[(1, 1), (3, 1), (2, 2)],
         dominates: false,
     },
-    DominanceRow {
+    PairRow {
+        name: "a greater usage",
+        project: &NEEDY,
         front: &[(1, 1), (2, 2), (3, 1)],
         other: &[(1, 1), (3, 1), (2, 1)],
         dominates: false,
     },
 ];
 
+fn compare(rt: &impl Abort, alloc: Global, row: &PairRow) -> Result<(), Fail> {
+    let project = project_of(alloc, row.project)?;
+    let front = walk(rt, alloc, &project, row.front)?;
+    let record = CutRecord::of(alloc, &project, &front)?;
+    let other = walk(rt, alloc, &project, row.other)?;
+    let found = dominates(&project, &record, &other);
+    assert_eq!(rt; found, row.dominates, "{}", row.name);
+    Ok(())
+}
+
 #[test]
-fn needs(rt: HostRuntime) -> Result<(), Fail> {
-    let project = project_of(rt.alloc(), &NEEDY)?;
-    for row in &OF_NEEDY {
-        compare(&rt, rt.alloc(), &project, *row)?;
+fn pairs(rt: HostRuntime) -> Result<(), Fail> {
+    for row in &PAIRS {
+        compare(&rt, rt.alloc(), row)?;
     }
     Ok(())
 }
@@ -260,9 +251,11 @@ fn tell_apart(
 ) -> Result<(), NoMemory> {
     let node = walk(rt, alloc, own, front)?;
     let record = CutRecord::of(alloc, own, &node)?;
-    let is_own = record.is_of(own)?;
-    let is_other = record.is_of(other)?;
-    assert!(rt; is_own && !is_other);
+    let is_own = record.is_of(alloc, own)?;
+    let keeps_own = record.keeps_of(alloc, own)?;
+    let is_other = record.is_of(alloc, other)?;
+    let keeps_other = record.keeps_of(alloc, other)?;
+    assert!(rt; is_own && keeps_own && !is_other && !keeps_other);
     Ok(())
 }
 
@@ -288,7 +281,7 @@ const APART: ProjectRow = ProjectRow {
 
 /// The place of the first record that dominates, by looking at all of them.
 fn scan(project: &Project, records: &[CutRecord], b: &Node) -> Option<u32>
-    requires records { All (IsFront project.now) records.now }
+    requires records { All (IsBaseOf project.now) records.now }
     requires node { StandsFor project.now b.now }
 {
     for (place, record) in records.iter().enumerate() {
@@ -329,19 +322,34 @@ fn add(
     alloc: Global,
     project: &Project,
     node: &Node,
+    set: SetPlace,
     index: &mut Index,
 ) -> Result<(), NoMemory>
     requires node { StandsFor project.now node.now }
-    requires index { All (IsFront project.now) index.old }
-    ensures { All (IsFront project.now) index.new }
+    requires index { All (IsBaseOf project.now) index.old }
+    ensures { All (IsBaseOf project.now) index.new }
 {
     let record = CutRecord::of(alloc, project, node)?;
     let places = index.len();
     assert!(rt; places < u32::MAX);
-    match index.add(record) {
-        Ok(place) => assert_eq!(rt; place, places),
-        Err(_) => return Err(NoMemory),
+    match index.add(record, set) {
+        Ok(place) => {
+            assert_eq!(rt; place, places);
+            Ok(())
+        }
+        Err(_) => Err(NoMemory),
     }
+}
+
+/// Appends a record of the node's front.
+fn keep(project: &Project, node: &Node, records: &mut Vec<CutRecord>) -> Result<(), NoMemory>
+    requires node { StandsFor project.now node.now }
+    requires records { All (IsBaseOf project.now) records.old.items }
+    ensures { All (IsBaseOf project.now) records.new.items }
+{
+    let alloc = *records.allocator();
+    let record = CutRecord::of(alloc, project, node)?;
+    records.push(record)?;
     Ok(())
 }
 
@@ -353,25 +361,25 @@ fn enter(
     records: &mut Vec<CutRecord>,
     index: &mut Index,
 ) -> Result<(), NoMemory>
-    requires records { All (IsFront project.now) records.old.items }
-    requires index { All (IsFront project.now) index.old }
-    ensures records { All (IsFront project.now) records.new.items }
-    ensures index { All (IsFront project.now) index.new }
+    requires records { All (IsBaseOf project.now) records.old.items }
+    requires index { All (IsBaseOf project.now) index.old }
+    ensures records { All (IsBaseOf project.now) records.new.items }
+    ensures index { All (IsBaseOf project.now) index.new }
 {
     let alloc = *records.allocator();
     let node = walk(rt, alloc, project, front)?;
     let found = index.find(project, &node);
     let scanned = scan(project, records.as_slice(), &node);
-    assert_eq!(rt; found, scanned);
-    let record = CutRecord::of(alloc, project, &node)?;
-    records.push(record)?;
-    add(rt, alloc, project, &node, index)
+    assert_eq!(rt; found.first, scanned);
+    keep(project, &node, records)?;
+    add(rt, alloc, project, &node, found.set, index)?;
+    Ok(())
 }
 
 /// Enters the fronts of four of the five jobs, and says how many there are.
 fn enter_all(rt: &impl Abort, alloc: Global, project: &Project) -> Result<u32, NoMemory> {
     let mut records = Vec::new(alloc);
-    let mut index = Index::new(alloc);
+    let mut index = Index::new(alloc, project);
     for number in 0..625 {
         let front = named_by(number);
         if are_distinct(&front) {
@@ -395,9 +403,9 @@ fn is_shared<T: Sync>(_value: &T) {}
 #[test]
 fn shared(rt: HostRuntime) -> Result<(), Fail> {
     let project = project_of(rt.alloc(), &APART)?;
-    let node = Node::root(rt.alloc());
+    let node = Node::root();
     let record = CutRecord::of(rt.alloc(), &project, &node)?;
     is_shared(&record);
-    is_shared(&Index::new(rt.alloc()));
+    is_shared(&Index::new(rt.alloc(), &project));
     Ok(())
 }

@@ -1,5 +1,5 @@
-pub mod RestSteps
 pub mod TailSteps
-pub mod WorkSteps
+pub mod Parts
+pub mod SupplySteps
 pub mod LowerSteps
 pub mod NodeBounds

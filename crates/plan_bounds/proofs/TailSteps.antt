@@ -1,58 +1,134 @@
--- The tail bound, one job further.
-use Rattle.std.proofs.Common.{◌≡◌, ℕ, ◌+◌, ◌<◌, ◌≤◌, max, ◌⊎◌, inl, inr, arith, refl, sym, ap, subst, ◌∙◌, true, false, List, [], ◌∷◌}
-use Rattle.std.specs.Prelude.{All, sum_by}
-use Rattle.std.proofs.lemmas.Bool.{cases_Bool, cases_eq, cases_lt, both_ways}
-use Rattle.std.proofs.lemmas.List.Elements.{All-cons, All-nil, All-head}
+-- The tail bound by the eligible and the active jobs.
+use Rattle.std.proofs.Common.{◌≡◌, ℕ, zero, suc, ◌+◌, ◌-◌, ◌<◌, ◌≤◌, max, ◌⊎◌, inl, inr, arith, refl, sym, ap, subst, ◌∙◌, true, false, List, [], ◌∷◌, length, get_or, take}
+use Rattle.std.specs.Prelude.{All, Option, Some, None, sum_by, filter}
+use Rattle.std.proofs.lemmas.Bool.{cases_Bool, cases_lt, both_ways}
+use Rattle.std.proofs.lemmas.List.Elements.{All-cons, All-nil, All-head, All-more, All-contains, Contains-get_or}
+use Rattle.std.proofs.Math.Seq.{take-length}
+use Rattle.sched_base.specs.declared.job_set.JobSet.{JobSet}
+use Rattle.sched_base.specs.JobSet.{member, IsNextMember}
 use Rattle.rcpsp_model.specs.declared.parts.Entry.{Entry}
-use Rattle.rcpsp_model.specs.Project.{Project, IsJob, IsAcyclic, job_count}
-use Rattle.rcpsp_model.specs.Schedule.{end_of}
-use Rattle.rcpsp_model.specs.Chain.{least_duration, IsChain, IsTail}
-use Rattle.rcpsp_model.specs.Tree.{has_job, IsFront}
-use Rattle.rcpsp_model.specs.Bounds.{ready, TailValue, front, chain, IsTailBound}
+use Rattle.rcpsp_model.specs.Project.{Project, IsJob, IsAcyclic, Before, is_before, job_count}
+use Rattle.rcpsp_model.specs.Schedule.{finish, end_of}
+use Rattle.rcpsp_model.specs.Chain.{least_duration, IsChain, IsTail, IsGreatest}
+use Rattle.rcpsp_model.specs.Tree.{has_job, last_start, IsEligible, IsFront}
+use Rattle.rcpsp_model.specs.Bounds.{ready, TailValue, of_front, of_chain, IsTailBound}
+use Rattle.rcpsp_model.proofs.Lists.{In, In-All, In-filter, filter-In, In-from_Contains, Contains-from_In, sum_by-total}
+use Rattle.rcpsp_model.proofs.Numbers.{some_decided, both_decided, true_decided, false_decided}
+use Rattle.rcpsp_model.proofs.Entries.{entry_of}
+use Rattle.rcpsp_model.proofs.Usage.{finish-le-end, end-le}
+use Rattle.rcpsp_model.proofs.FrontLemmas.{last-le-end, named-in_turn}
+use Rattle.rcpsp_model.proofs.TailLemmas.{has_tail_law}
 use Rattle.rcpsp_model.proofs.Sound.{IsSound, front-sound}
+use Rattle.precedence_tree.specs.declared.active.Active.{Active}
+use Rattle.precedence_tree.specs.Active.{IsActive, AreActive}
+use Rattle.precedence_tree.specs.Frontier.{AreEligible}
+use Rattle.precedence_tree.specs.Node.{joined}
+use Rattle.precedence_tree.proofs.Ordered.{no_active}
+use Rattle.precedence_tree.proofs.Actives.{front-starts, active-has}
+use Rattle.plan_bounds.specs.Tails.{IsZeroOrTail, IsAfter, IsFloorOrAfter}
 
--- the bound is the end of the front, or what one of the unplaced jobs leads to
-pub Reached : Project → List Entry → ℕ → Type 0
-Reached P F n = (n ≡ end_of P F) ⊎ ((j : ℕ) × (t : ℕ) × IsJob P j × (has_job F j ≡ false) × IsTail P j t × (n ≡ ready P F j + t))
+-- Tails.
 
--- the bound by the unplaced jobs below n
-pub record TailSoFar (P : Project) (F : List Entry) (n bound : ℕ) : Type 0 where
-  pub own : end_of P F ≤ bound
-  pub jobs : (j t : ℕ) → 1 ≤ j → j < n → has_job F j ≡ false → IsTail P j t → ready P F j + t ≤ bound
-  pub reached : Reached P F bound
-
-pub tail-none : (P : Project) (F : List Entry) (end : ℕ) → end ≡ end_of P F → TailSoFar P F 1 end
-unfolding Reached
-tail-none P F end e = record { own = omega arith; jobs = λ j t low high. absurd (omega arith); reached = inl e }
-
-pub tail-placed : (P : Project) (F : List Entry) (n bound : ℕ) → has_job F n ≡ true → TailSoFar P F n bound → TailSoFar P F (n + 1) bound
-tail-placed P F n bound has s = record {
-  own = s.own;
-  jobs = λ j t low high un tail. elim (cases_eq j n) [
-    | inl e ↦ absurd (both_ways (has_job F n) (subst (λ k. has_job F k ≡ false) e un) has)
-    | inr ne ↦ s.jobs j t low (omega arith) un tail
-  ];
-  reached = s.reached;
-}
-
-tail-one : (P : Project) (j a b : ℕ) → IsTail P j a → IsTail P j b → a ≡ b
+pub tail-one : (P : Project) (j a b : ℕ) → IsTail P j a → IsTail P j b → a ≡ b
 tail-one P j a b p q = let x = p.greatest b q.attained in let y = q.greatest a p.attained in omega arith
 
-pub tail-open : (P : Project) (F : List Entry) (n bound new t : ℕ) → IsJob P n → has_job F n ≡ false → IsTail P n t → new ≡ max bound (ready P F n + t) → TailSoFar P F n bound → TailSoFar P F (n + 1) new
-unfolding Reached
-tail-open P F n bound new t job un tail is s = record {
-  own = let o = s.own in omega arith;
-  jobs = λ j u low high free other. elim (cases_eq j n) [
-    | inl e ↦
-        let same : u ≡ t = tail-one P n u t (subst (λ k. IsTail P k u) e other) tail in
-        let at : ready P F j ≡ ready P F n = ap (ready P F) e in omega arith
-    | inr ne ↦ let le = s.jobs j u low (omega arith) free other in omega arith
+pub tail-own : (P : Project) (j t : ℕ) → IsTail P j t → least_duration P j ≤ t
+tail-own P j t is = is.greatest (least_duration P j) ([], tt, let sum = sum_by-total (least_duration P) (j ∷ []) in omega arith)
+
+-- a tail goes over the tails of the successors
+pub tail-before : (P : Project) (i j t u : ℕ) → Before P i j → IsTail P i t → IsTail P j u → least_duration P i + u ≤ t
+tail-before P i j t u b is next =
+    let c = next.attained in
+    is.greatest (least_duration P i + u) (j ∷ c.0, (b, c.1), let sum = sum_by-total (least_duration P) (i ∷ j ∷ c.0) in let rest = sum_by-total (least_duration P) (j ∷ c.0) in let same = c.2 in omega arith)
+
+-- a job is its whole tail, or the tail goes on with that of a successor
+pub tail-follows : (P : Project) → IsAcyclic P → (i t : ℕ) → IsTail P i t → (t ≡ least_duration P i) ⊎ ((j : ℕ) × (u : ℕ) × Before P i j × IsTail P j u × (t ≡ least_duration P i + u))
+tail-follows P a i t is = go is.attained.0 is.attained.1 is.attained.2
+  where
+    go : (js : List ℕ) → IsChain P (i ∷ js) → t ≡ sum_by (least_duration P) (i ∷ js) → (t ≡ least_duration P i) ⊎ ((j : ℕ) × (u : ℕ) × Before P i j × IsTail P j u × (t ≡ least_duration P i + u))
+    go [] c e = inl (let sum = sum_by-total (least_duration P) (i ∷ []) in omega arith)
+    go (k ∷ js) c e =
+        let own = has_tail_law P k a (a.jobs i k c.0).1 in
+        let within = own.1.greatest (sum_by (least_duration P) (k ∷ js)) (js, c.1, refl) in
+        let whole = tail-before P i k t own.0 c.0 is own.1 in
+        let sum = sum_by-total (least_duration P) (i ∷ k ∷ js) in
+        let rest = sum_by-total (least_duration P) (k ∷ js) in
+        inr (k, own.0, c.0, own.1, (let same : t ≡ least_duration P i + own.0 = omega arith in same))
+
+-- The greatest tail of the jobs of a set, up to a number.
+pub record LongestTo (P : Project) (jobs : JobSet) (last longest : ℕ) : Type 0 where
+  pub attained : IsZeroOrTail P jobs longest
+  pub each : (j u : ℕ) → 1 ≤ j → j ≤ last → member jobs j ≡ true → IsTail P j u → u ≤ longest
+
+pub longest-none : (P : Project) (jobs : JobSet) → LongestTo P jobs 0 0
+longest-none P jobs = record { attained = inl refl; each = λ j u low high. absurd (omega arith) }
+
+pub longest-more : (P : Project) (jobs : JobSet) (last longest job t next : ℕ) → IsNextMember jobs last job → IsTail P job t → next ≡ max longest t → LongestTo P jobs last longest →
+    LongestTo P jobs job next
+longest-more P jobs last longest job t next found is now so_far = record {
+  attained = elim (cases_lt longest t) [
+    | inl more ↦ inr (job, (let above = found.later in omega arith), found.own, subst (IsTail P job) (let e : t ≡ next = omega arith in e) is)
+    | inr less ↦ subst (IsZeroOrTail P jobs) (let e : longest ≡ next = omega arith in e) so_far.attained
   ];
-  reached = elim (cases_lt bound (ready P F n + t)) [
-    | inl more ↦ inr (n, t, job, un, tail, (let e : new ≡ ready P F n + t = omega arith in e))
-    | inr less ↦ subst (Reached P F) (let e : bound ≡ new = omega arith in e) s.reached
+  each = λ j u low high has tail. elim (cases_lt last j) [
+    | inl above ↦
+        let from = found.lowest j above has in
+        let same : u ≡ t = tail-one P job u t (subst (λ i. IsTail P i u) (let e : j ≡ job = omega arith in e) tail) is in
+        omega arith
+    | inr before ↦ let le = so_far.each j u low before has tail in omega arith
   ];
 }
+
+pub longest-all : (P : Project) (jobs : JobSet) (last longest : ℕ) → ((i : ℕ) → last < i → member jobs i ≡ false) → LongestTo P jobs last longest → IsGreatest (IsZeroOrTail P jobs) longest
+longest-all P jobs last longest none so_far = record { attained = so_far.attained; greatest = over }
+  where
+    over : (u : ℕ) → IsZeroOrTail P jobs u → u ≤ longest
+    over u (inl e) = omega arith
+    over u (inr j) = elim (cases_lt last j.0) [
+      | inl above ↦ absurd (both_ways (member jobs j.0) (none j.0 above) j.2)
+      | inr within ↦ so_far.each j.0 u j.1 within j.2 j.3
+    ]
+
+-- The greatest of a floor and of when the chains after the first n active jobs can be done.
+pub record PastTo (P : Project) (xs : List Active) (floor n bound : ℕ) : Type 0 where
+  pub attained : IsFloorOrAfter P xs floor bound
+  pub from_floor : floor ≤ bound
+  pub each : All (λ (a : Active). (u : ℕ) → IsAfter P a u → u ≤ bound) (take n xs)
+
+pub past-none : (P : Project) (xs : List Active) (floor : ℕ) → PastTo P xs floor 0 floor
+past-none P xs floor = record { attained = inl refl; from_floor = omega arith; each = All-nil (λ (a : Active). (u : ℕ) → IsAfter P a u → u ≤ floor) }
+
+after-one : (P : Project) (a : Active) (t u v : ℕ) → IsTail P a.entry.job t → IsAfter P a u → IsAfter P a v → u ≡ v
+after-one P a t u v is one two = let x = one t is in let y = two t is in omega arith
+
+pub past-more : (P : Project) → IsAcyclic P → (xs : List Active) (floor n bound own next : ℕ) → n < length xs → IsJob P (get_or xs n no_active).entry.job → IsAfter P (get_or xs n no_active) own → next ≡ max bound own →
+    PastTo P xs floor n bound → PastTo P xs floor (n + 1) next
+past-more P acyclic xs floor n bound own next within job is now so_far = record {
+  attained = elim (cases_lt bound own) [
+    | inl more ↦ inr (get_or xs n no_active, Contains-get_or xs n no_active within, subst (IsAfter P (get_or xs n no_active)) (let e : own ≡ next = omega arith in e) is)
+    | inr less ↦ subst (IsFloorOrAfter P xs floor) (let e : bound ≡ next = omega arith in e) so_far.attained
+  ];
+  from_floor = let old = so_far.from_floor in omega arith;
+  each = All-more (λ (a : Active). (u : ℕ) → IsAfter P a u → u ≤ next) xs n no_active within (raised (take n xs) so_far.each)
+      (λ u after. let t = has_tail_law P (get_or xs n no_active).entry.job acyclic job in let same = after-one P (get_or xs n no_active) t.0 u own t.1 after is in omega arith);
+}
+  where
+    raised : (ys : List Active) → All (λ (a : Active). (u : ℕ) → IsAfter P a u → u ≤ bound) ys → All (λ (a : Active). (u : ℕ) → IsAfter P a u → u ≤ next) ys
+    raised ys h k d low u after = let le = h k d low u after in omega arith
+
+pub past-all : (P : Project) (xs : List Active) (floor n bound : ℕ) → n ≡ length xs → PastTo P xs floor n bound → IsGreatest (IsFloorOrAfter P xs floor) bound
+past-all P xs floor n bound all so_far = record { attained = so_far.attained; greatest = over }
+  where
+    whole : All (λ (a : Active). (u : ℕ) → IsAfter P a u → u ≤ bound) xs
+    whole = subst (All (λ (a : Active). (u : ℕ) → IsAfter P a u → u ≤ bound)) (ap (λ i. take i xs) all ∙ take-length xs) so_far.each
+
+    over : (u : ℕ) → IsFloorOrAfter P xs floor u → u ≤ bound
+    over u (inl e) = let h = so_far.from_floor in omega arith
+    over u (inr a) = All-contains (λ (x : Active). (v : ℕ) → IsAfter P x v → v ≤ bound) xs a.0 whole a.1 u a.2
+
+-- What the bound reaches: a value of the tail bound that is no less.
+abbrev pub Reached : Project → List Entry → ℕ → Type 0
+Reached P F n = (v : ℕ) × TailValue P F v × (n ≤ v)
 
 -- a chain from an unplaced job has unplaced jobs alone
 chain-unplaced : (P : Project) (F : List Entry) → IsSound P F → (j : ℕ) (js : List ℕ) → has_job F j ≡ false → IsChain P (j ∷ js) → All (λ i. has_job F i ≡ false) (j ∷ js)
@@ -61,23 +137,173 @@ chain-unplaced P F s j (k ∷ js) n c =
     let next : has_job F k ≡ false = elim (cases_Bool (has_job F k)) [ inl y ↦ absurd (both_ways _ n (s.closed j k c.0 y)) | inr m ↦ m ] in
     All-cons (λ i. has_job F i ≡ false) j (k ∷ js) n (chain-unplaced P F s k js next c.1)
 
-pub tail-all : (P : Project) (a : IsAcyclic P) (F : List Entry) (n bound : ℕ) → IsFront P F → job_count P < n → ((j : ℕ) → IsJob P j → (t : ℕ) × IsTail P j t) → TailSoFar P F n bound → IsTailBound P F bound
-unfolding Reached
-tail-all P a F n bound f past tails s = record { attained = reached s.reached; greatest = over }
+-- an unplaced job leads to its tail from when it is ready
+reach-unplaced : (P : Project) → IsAcyclic P → (F : List Entry) → IsFront P F → (j t : ℕ) → IsJob P j → has_job F j ≡ false → IsTail P j t → Reached P F (ready P F j + t)
+reach-unplaced P a F f j t job un is =
+    let c = is.attained in
+    (ready P F j + sum_by (least_duration P) (j ∷ c.0), of_chain j c.0 job c.1 (chain-unplaced P F (front-sound P a F f) j c.0 un c.1), let same = c.2 in omega arith)
+
+reach-eligible : (P : Project) → IsAcyclic P → (F : List Entry) → IsFront P F → (j t : ℕ) → IsEligible P F j → IsTail P j t → Reached P F (last_start F + t)
+reach-eligible P a F f j t el is = let r = reach-unplaced P a F f j t el.job el.unplaced is in (r.0, r.1, let le = r.2 in omega arith)
+
+reach-active : (P : Project) → IsAcyclic P → (F : List Entry) → IsFront P F → (a : Active) (n : ℕ) → IsActive P F a → IsJob P a.entry.job → IsAfter P a n → Reached P F n
+reach-active P acyclic F f a n act job is =
+    let own = has_tail_law P a.entry.job acyclic job in
+    let at = is own.0 own.1 in
+    elim (tail-follows P acyclic a.entry.job own.0 own.1) [
+      | inl alone ↦ (end_of P F, of_front, let within = finish-le-end P F a.entry there in let same = act.finish in omega arith)
+      | inr next ↦
+          let r = reach-unplaced P acyclic F f next.0 next.1 (acyclic.jobs a.entry.job next.0 next.2).1 (unplaced next.0 next.2) next.3 in
+          let waits = finish-le-end P (filter (λ (e : Entry). is_before P e.job next.0) F) a.entry (filter-In (λ (e : Entry). is_before P e.job next.0) F a.entry there next.2) in
+          (r.0, r.1, let le = r.2 in let same = act.finish in let sum = next.4 in omega arith)
+    ]
   where
-    sound : IsSound P F
-    sound = front-sound P a F f
+    there : In F a.entry
+    there = In-from_Contains F a.entry act.placed
 
-    reached : Reached P F bound → TailValue P F bound
-    reached (inl e) = subst (TailValue P F) (sym e) front
-    reached (inr k) =
-        let c = k.4.attained in
-        subst (TailValue P F) (sym (k.5 ∙ ap (λ m. ready P F k.0 + m) c.2)) (chain k.0 c.0 k.2 c.1 (chain-unplaced P F sound k.0 c.0 k.3 c.1))
+    -- a job that starts after an active one isn't placed
+    unplaced : (s : ℕ) → Before P a.entry.job s → has_job F s ≡ false
+    unplaced s b = elim (cases_Bool (has_job F s)) [
+      | inl has ↦
+          let e = entry_of F s has in
+          let done = (front-sound P acyclic F f).done a.entry e.0 there e.1 (subst (λ (i : ℕ). Before P a.entry.job i) (sym e.2) b) in
+          let starts = front-starts P F f e.0 e.1 in
+          let same = act.finish in
+          let later = act.later in
+          absurd (omega arith)
+      | inr none ↦ none
+    ]
 
-    over : (u : ℕ) → TailValue P F u → u ≤ bound
-    over u front = s.own
-    over u (chain j js job ch un) =
-        let t = tails j job in
-        let le = t.1.greatest (sum_by (least_duration P) (j ∷ js)) (js, ch, refl) in
-        let lead = s.jobs j t.0 job.0 (let h = job.1 in omega arith) (All-head (λ i. has_job F i ≡ false) j js un) t.1 in
-        omega arith
+-- Each unplaced job is no further from the end than an eligible one.
+pub record IsAhead (P : Project) (F : List Entry) (j i : ℕ) : Type 0 where
+  pub eligible : IsEligible P F i
+  pub longer : (t u : ℕ) → IsTail P i t → IsTail P j u → u ≤ t
+
+open-or-waits : (P : Project) → IsAcyclic P → (F : List Entry) (j : ℕ) → IsJob P j → has_job F j ≡ false → IsEligible P F j ⊎ ((i : ℕ) × Before P i j × (has_job F i ≡ false))
+open-or-waits P a F j job un = elim (some_decided (λ i. Before P i j × (has_job F i ≡ false)) (λ i. both_decided (true_decided (is_before P i j)) (false_decided (has_job F i))) (job_count P + 1)) [
+  | inl waits ↦ inr (waits.0, waits.2.0, waits.2.1)
+  | inr none ↦ inl (record {
+    job = job;
+    unplaced = un;
+    preds = λ i b. elim (cases_Bool (has_job F i)) [ inl y ↦ y | inr n ↦ absurd (none (i, (let high = (a.jobs i j b).0.1 in omega arith), (b, n))) ];
+  })
+]
+
+ahead : (P : Project) (a : IsAcyclic P) (F : List Entry) (n j : ℕ) → a.rank j < n → IsJob P j → has_job F j ≡ false → (i : ℕ) × IsAhead P F j i
+ahead P a F zero j low job un = absurd (omega arith)
+ahead P a F (suc n) j low job un = elim (open-or-waits P a F j job un) [
+  | inl el ↦ (j, record { eligible = el; longer = λ t u p q. let same = tail-one P j t u p q in omega arith })
+  | inr w ↦
+      let before = (a.jobs w.0 j w.1).0 in
+      let up = ahead P a F n w.0 (let rise = a.rises w.0 j w.1 in omega arith) before w.2 in (
+        up.0,
+        record {
+          eligible = up.1.eligible;
+          longer = λ t u p q.
+              let own = has_tail_law P w.0 a before in
+              let first = up.1.longer t own.0 p own.1 in
+              let second = tail-before P w.0 j own.0 u w.1 own.1 q in
+              omega arith;
+        },
+      )
+]
+
+-- the bound is no less than what leads on from each eligible and each active job
+pub record Covers (P : Project) (F : List Entry) (xs : List Active) (bound : ℕ) : Type 0 where
+  pub end : end_of P F ≤ bound
+  pub eligible : (j t : ℕ) → IsEligible P F j → IsTail P j t → last_start F + t ≤ bound
+  pub active : (a : Active) (u : ℕ) → In xs a → IsAfter P a u → u ≤ bound
+
+cover-all : (P : Project) → IsAcyclic P → (F : List Entry) (xs : List Active) (bound : ℕ) → IsFront P F → AreActive P F xs → Covers P F xs bound → (u : ℕ) → TailValue P F u → u ≤ bound
+cover-all P a F xs bound f are c u of_front = c.end
+cover-all P a F xs bound f are c u (of_chain j js job ch un) =
+    let free = All-head (λ i. has_job F i ≡ false) j js un in
+    let t = has_tail_law P j a job in
+    let within = t.1.greatest (sum_by (least_duration P) (j ∷ js)) (js, ch, refl) in
+    let lead = ahead P a F (a.rank j + 1) j (omega arith) job free in
+    let far = has_tail_law P lead.0 a lead.1.eligible.job in
+    let longer = lead.1.longer far.0 t.0 far.1 t.1 in
+    let some = c.eligible lead.0 far.0 lead.1.eligible far.1 in
+    let preds = end-le P (filter (λ (e : Entry). is_before P e.job j) F) (bound - t.0) (λ e m.
+    let own = In-filter (λ (x : Entry). is_before P x.job j) F e m in
+    elim (cases_lt (last_start F) (finish P e)) [
+      | inl on ↦
+          let has = active-has P F xs e f are own.0 on in
+          let act = In-All (IsActive P F) xs are.each has.0 has.1 in
+          let before : Before P has.0.entry.job j = subst (λ (x : Entry). Before P x.job j) (sym has.2) own.1 in
+          let tail = has_tail_law P has.0.entry.job a (a.jobs has.0.entry.job j before).0 in
+          let goes = tail-before P has.0.entry.job j tail.0 t.0 before tail.1 t.1 in
+          let n = has.0.finish + tail.0 - least_duration P has.0.entry.job in
+          let after : IsAfter P has.0 n = λ v is. (let same = tail-one P has.0.entry.job tail.0 v tail.1 is in omega arith) in
+          let le = c.active has.0 n has.1 after in
+          let same = act.finish ∙ ap (finish P) has.2 in
+          omega arith
+      | inr done ↦ omega arith
+    ]) in
+    omega arith
+
+pub bound-is : (P : Project) → IsAcyclic P → (F : List Entry) (xs : List Active) (bound : ℕ) → IsFront P F → AreActive P F xs → Covers P F xs bound → Reached P F bound → IsTailBound P F bound
+bound-is P a F xs bound f are c r = record {
+  attained = let up = cover-all P a F xs bound f are c r.0 r.1 in subst (TailValue P F) (let e : r.0 ≡ bound = (let le = r.2 in omega arith) in e) r.1;
+  greatest = cover-all P a F xs bound f are c;
+}
+
+-- The bound of a node, part by part.
+
+In-joined : (o : Option Active) (xs : List Active) (a : Active) → In (joined o xs) a → In (joined o []) a ⊎ In xs a
+In-joined None xs a i = inr i
+In-joined (Some b) xs a (inl e) = inl (inl e)
+In-joined (Some b) xs a (inr i) = inr i
+
+joined-In : (o : Option Active) (xs : List Active) (a : Active) → In (joined o []) a ⊎ In xs a → In (joined o xs) a
+joined-In None xs a (inl i) = absurd i
+joined-In None xs a (inr i) = i
+joined-In (Some b) xs a (inl (inl e)) = inl e
+joined-In (Some b) xs a (inl (inr i)) = absurd i
+joined-In (Some b) xs a (inr i) = inr i
+
+pub bound-from : (P : Project) → IsAcyclic P → (F : List Entry) (o : Option Active) (xs : List Active) (options : JobSet) (last end longest first newest bound : ℕ) → IsFront P F → AreActive P F (joined o xs) → AreEligible P F options →
+    last ≡ last_start F → end ≡ end_of P F → IsGreatest (IsZeroOrTail P options) longest → first ≡ max end (last + longest) → IsGreatest (IsFloorOrAfter P (joined o []) first) newest → IsGreatest (IsFloorOrAfter P xs newest) bound → IsTailBound P F bound
+bound-from P a F o xs options last end longest first newest bound f are el is_last is_end long now by_newest by_older = bound-is P a F (joined o xs) bound f are covers reached
+  where
+    low : first ≤ newest
+    low = by_newest.greatest first (inl refl)
+
+    high : newest ≤ bound
+    high = by_older.greatest newest (inl refl)
+
+    covers : Covers P F (joined o xs) bound
+    covers = record {
+      end = let x = low in let y = high in omega arith;
+      eligible = λ j t own tail. let le = long.greatest t (inr (j, own.job.0, (el j own.job.0).1 own, tail)) in let x = low in let y = high in omega arith;
+      active = λ b u i after. elim (In-joined o xs b i) [
+        | inl m ↦ let le = by_newest.greatest u (inr (b, Contains-from_In (joined o []) b m, after)) in let y = high in omega arith
+        | inr m ↦ by_older.greatest u (inr (b, Contains-from_In xs b m, after))
+      ];
+    }
+
+    reach : (b : Active) (n : ℕ) → In (joined o xs) b → IsAfter P b n → Reached P F n
+    reach b n i after =
+        let act = In-All (IsActive P F) (joined o xs) are.each b i in
+        reach-active P a F f b n act (named-in_turn P [] F f b.entry (In-from_Contains F b.entry act.placed)).0 after
+
+    start : Reached P F first
+    start = elim long.attained [
+      | inl none ↦ (end_of P F, of_front, let within = last-le-end P F in omega arith)
+      | inr j ↦ elim (cases_lt end (last + longest)) [
+        | inl more ↦ let r = reach-eligible P a F f j.0 longest ((el j.0 j.1).0 j.2) j.3 in (r.0, r.1, let le = r.2 in omega arith)
+        | inr less ↦ (end_of P F, of_front, omega arith)
+      ]
+    ]
+
+    middle : Reached P F newest
+    middle = elim by_newest.attained [
+      | inl e ↦ subst (Reached P F) (sym e) start
+      | inr b ↦ reach b.0 newest (joined-In o xs b.0 (inl (In-from_Contains (joined o []) b.0 b.1))) b.2
+    ]
+
+    reached : Reached P F bound
+    reached = elim by_older.attained [
+      | inl e ↦ subst (Reached P F) (sym e) middle
+      | inr b ↦ reach b.0 bound (joined-In o xs b.0 (inr (In-from_Contains xs b.0 b.1))) b.2
+    ]

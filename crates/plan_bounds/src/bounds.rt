@@ -19,6 +19,7 @@ use project_net::Project;
 pub fn tail_bound(project: &Project, node: &Node) -> u32
     requires { StandsFor project.now node.now }
     ensures value { IsTailBound project.now node.now.front result }
+    ensures limit { result ≤ 2570000 }
 
     // What completes the node ends at the bound or later.
     ensures bound { (s : List Placing) → Completes project.now node.now.front s → result ≤ end_of project.now (entries s) }
@@ -27,13 +28,14 @@ pub fn tail_bound(project: &Project, node: &Node) -> u32
     tail_bound_of(project, node)
 }
 
-/// The work bound of a renewable resource at a node: the last start and the quotient, rounded up, of the work that is
-/// left by the capacity, at most 999,999,999; `None` exactly where the capacity is 0.
+/// The work bound of a renewable resource at a node: the first period by which the resource, from the last start on, has
+/// held the work that is left, at most 999,999,999; `None` exactly where the capacity is 0.
 pub fn work_bound(project: &Project, node: &Node, resource: u8) -> Option<u32>
     requires node { StandsFor project.now node.now }
     requires resource { IsRenewable project.now resource }
     ensures some { IfSome result (IsWorkBound project.now node.now.front resource) }
     ensures none { IsNone result ↔ (capacity project.now resource ≡ 0) }
+    ensures limit { IfSome result (λ w. w ≤ 999999999) }
 
     // What completes the node ends at the bound or later.
     ensures bound { IfSome result (λ w. (s : List Placing) → Completes project.now node.now.front s → w ≤ end_of project.now (entries s)) }
@@ -41,10 +43,11 @@ pub fn work_bound(project: &Project, node: &Node, resource: u8) -> Option<u32>
     work_bound_of(project, node, resource)
 }
 
-/// The greatest of the tail bound and all work bounds of a node.
+/// The greatest of the tail bound and all work bounds of a node, at most 999,999,999.
 pub fn lower(project: &Project, node: &Node) -> u32
     requires { StandsFor project.now node.now }
     ensures value { IsLowerBound project.now node.now.front result }
+    ensures limit { result ≤ 999999999 }
 
     // What completes the node ends at the bound or later.
     ensures bound { (s : List Placing) → Completes project.now node.now.front s → result ≤ end_of project.now (entries s) }

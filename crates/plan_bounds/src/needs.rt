@@ -9,23 +9,23 @@ use precedence_tree::Node;
 use project_net::Project;
 
 /// What the placed jobs and the others at their least need of the resource.
-fn needed(p: &Project, node: &Node, resource: u8) -> u64
-    requires node { StandsFor p.now node.now }
-    requires resource { IsNonrenewable p.now resource }
-    ensures { result ≡ used p.now node.now.front resource + rest_need p.now node.now.front resource }
+fn needed(project: &Project, node: &Node, resource: u8) -> u64
+    requires node { StandsFor project.now node.now }
+    requires resource { IsNonrenewable project.now resource }
+    ensures { result ≡ used project.now node.now.front resource + rest_need project.now node.now.front resource }
 {
-    p.known();
-    node.used(resource) + node.rest_need(p, resource)
+    project.known();
+    u64::from(node.used(project, resource)) + u64::from(node.rest_need(project, resource))
 }
 
 /// The budget gap of a node.
-pub fn gap_of(p: &Project, node: &Node) -> Option<u8>
-    requires { StandsFor p.now node.now }
-    ensures gap { IfSome result (IsBudgetGap p.now node.now.front) }
-    ensures none { IfNone result (LeavesBudgets p.now node.now.front) }
+pub fn gap_of(project: &Project, node: &Node) -> Option<u8>
+    requires { StandsFor project.now node.now }
+    ensures gap { IfSome result (IsBudgetGap project.now node.now.front) }
+    ensures none { IfNone result (LeavesBudgets project.now node.now.front) }
 {
-    for resource in 1..p.nonrenewables() + 1 {
-        if u64::from(p.budget(resource)) < needed(p, node, resource) {
+    for resource in 1..project.nonrenewables() + 1 {
+        if u64::from(project.budget(resource)) < needed(project, node, resource) {
             return Some(resource);
         }
     }

@@ -2,7 +2,7 @@ ghost use Rattle.precedence_tree.specs.Node.{StandsFor};
 
 use crate::{budget_gap, lower, tail_bound, work_bound};
 use precedence_tree::{Child, Node, child, eligible};
-use project_net::{Draft, DraftJob, Project};
+use project_net::{CalRow, Draft, DraftJob, Project};
 use rcpsp_model::Mode;
 use sched_base::{Job, List};
 use std::alloc::{AllocError, Global};
@@ -15,12 +15,13 @@ type ModeRow = (u32, &'static [u32], &'static [u32]);
 /// A job by its modes and its successors.
 type JobRow = (&'static [ModeRow], &'static [u8]);
 
-/// A project by its jobs, its capacities and its budgets.
+/// A project by its jobs, its capacities, its budgets and its calendar.
 #[derive(Clone, Copy)]
 struct Facts {
     jobs: &'static [JobRow],
     capacities: &'static [u32],
     budgets: &'static [u32],
+    calendar: &'static [CalRow],
 }
 
 /// A front by its jobs, modes and starts, with its bounds and its gap.
@@ -65,10 +66,12 @@ fn draft_of(alloc: Global, facts: Facts) -> Result<Draft, AllocError> {
     }
     let capacities = list(alloc, facts.capacities)?;
     let budgets = list(alloc, facts.budgets)?;
+    let calendar = facts.calendar.to_vec(alloc)?;
     Ok(Draft {
         jobs: List::from_vec(jobs),
         capacities,
         budgets,
+        calendar: List::from_vec(calendar),
     })
 }
 
@@ -79,7 +82,15 @@ fn project_of(alloc: Global, facts: Facts) -> Result<Project, Fail> {
 }
 
 /// The node with the job placed in the mode, which has to start there.
-fn placed(rt: &impl Abort, project: &Project, node: &Node, job: u8, mode: u8, start: u32) -> Node
+fn placed(
+    rt: &impl Abort,
+    alloc: Global,
+    project: &Project,
+    node: &Node,
+    job: u8,
+    mode: u8,
+    start: u32,
+) -> Node
     requires { StandsFor project.now node.now }
     ensures { StandsFor project.now result }
 {
@@ -88,7 +99,7 @@ fn placed(rt: &impl Abort, project: &Project, node: &Node, job: u8, mode: u8, st
     assert!(rt; 1 <= mode && mode <= modes);
     let jobs = eligible(project, node);
     assert!(rt; jobs.has(Job(job)));
-    match child(project, node, job, mode).expect(rt, "memory") {
+    match child(alloc, project, node, job, mode).expect(rt, "memory") {
         Child::Placed(next) => {
             assert_eq!(rt; next.last(), start, "job {job}");
             next
@@ -101,9 +112,9 @@ fn placed(rt: &impl Abort, project: &Project, node: &Node, job: u8, mode: u8, st
 fn node_of(rt: &impl Abort, alloc: Global, project: &Project, front: &[(u8, u8, u32)]) -> Node
     ensures { StandsFor project.now result }
 {
-    let mut node = Node::root(alloc);
+    let mut node = Node::root();
     for (job, mode, start) in front {
-        node = placed(rt, project, &node, *job, *mode, *start);
+        node = placed(rt, alloc, project, &node, *job, *mode, *start);
     }
     node
 }
@@ -133,6 +144,7 @@ const IN_TURN: Facts = Facts {
     ],
     capacities: &[3],
     budgets: &[],
+    calendar: &[],
 };
 
 /// Three jobs of five of which each fills the capacity.
@@ -146,6 +158,7 @@ const ONE_AT_A_TIME: Facts = Facts {
     ],
     capacities: &[1],
     budgets: &[],
+    calendar: &[],
 };
 
 /// The same, with nothing to fill.
@@ -159,6 +172,7 @@ const NO_CAPACITY: Facts = Facts {
     ],
     capacities: &[0],
     budgets: &[],
+    calendar: &[],
 };
 
 /// Three jobs without length, one before the other and before job 4; job 5 stands alone.
@@ -172,6 +186,7 @@ const NO_LENGTH: Facts = Facts {
     ],
     capacities: &[3],
     budgets: &[],
+    calendar: &[],
 };
 
 /// Jobs 2 and 3 of four have a short and a cheap mode.
@@ -184,6 +199,7 @@ const SHORT_OR_CHEAP: Facts = Facts {
     ],
     capacities: &[2],
     budgets: &[4],
+    calendar: &[],
 };
 
 /// The same, with less than the cheap modes need.
@@ -196,19 +212,10 @@ const TOO_CHEAP: Facts = Facts {
     ],
     capacities: &[2],
     budgets: &[1],
+    calendar: &[],
 };
 
-/// Two jobs with a short and a cheap mode; they need too much of both resources.
-const TWO_GAPS: Facts = Facts {
-    jobs: &[
-        (&[(2, &[1], &[3, 1]), (4, &[1], &[1, 1])], &[]),
-        (&[(2, &[1], &[3, 1]), (4, &[1], &[1, 1])], &[]),
-    ],
-    capacities: &[2],
-    budgets: &[1, 1],
-};
-
-/// The same; they need too much of the second resource.
+/// Two jobs with a short and a cheap mode; they need too much of the second resource.
 const SECOND_GAP: Facts = Facts {
     jobs: &[
         (&[(2, &[1], &[3, 1]), (4, &[1], &[1, 1])], &[]),
@@ -216,6 +223,7 @@ const SECOND_GAP: Facts = Facts {
     ],
     capacities: &[2],
     budgets: &[2, 1],
+    calendar: &[],
 };
 
 /// Job 2 of six has a mode that asks for less and one that needs less.
@@ -230,6 +238,7 @@ const TWO_LEVELS: Facts = Facts {
     ],
     capacities: &[3],
     budgets: &[10],
+    calendar: &[],
 };
 
 /// Two jobs that share two resources.
@@ -237,18 +246,34 @@ const TWO_RESOURCES: Facts = Facts {
     jobs: &[(&[(2, &[1, 3], &[])], &[]), (&[(2, &[1, 3], &[])], &[])],
     capacities: &[4, 3],
     budgets: &[],
+    calendar: &[],
 };
 
-const CASES: [Case; 20] = [
-    Case {
-        name: "no job placed, in turn",
-        facts: IN_TURN,
-        front: &[],
-        tail: 3,
-        works: &[Some(4)],
-        lower: 4,
-        gap: None,
-    },
+/// The jobs that take turns, where at first there is less than either asks for.
+const LESS_AT_FIRST: Facts = Facts {
+    calendar: &[CalRow {
+        resource: 1,
+        begin: 0,
+        until: 2,
+        capacity: 1,
+    }],
+    ..IN_TURN
+};
+
+/// One job of three periods, and a break in the third one.
+const BREAK: Facts = Facts {
+    jobs: &[(&[(3, &[1], &[])], &[])],
+    capacities: &[1],
+    budgets: &[],
+    calendar: &[CalRow {
+        resource: 1,
+        begin: 2,
+        until: 3,
+        capacity: 0,
+    }],
+};
+
+const CASES: [Case; 14] = [
     Case {
         name: "a job in use",
         facts: IN_TURN,
@@ -256,24 +281,6 @@ const CASES: [Case; 20] = [
         tail: 3,
         works: &[Some(4)],
         lower: 4,
-        gap: None,
-    },
-    Case {
-        name: "a job after another",
-        facts: IN_TURN,
-        front: &[(1, 1, 0), (2, 1, 0), (3, 1, 3)],
-        tail: 5,
-        works: &[Some(5)],
-        lower: 5,
-        gap: None,
-    },
-    Case {
-        name: "no job placed, one at a time",
-        facts: ONE_AT_A_TIME,
-        front: &[],
-        tail: 2,
-        works: &[Some(6)],
-        lower: 6,
         gap: None,
     },
     Case {
@@ -295,15 +302,6 @@ const CASES: [Case; 20] = [
         gap: None,
     },
     Case {
-        name: "no job placed, without length",
-        facts: NO_LENGTH,
-        front: &[],
-        tail: 3,
-        works: &[Some(4)],
-        lower: 4,
-        gap: None,
-    },
-    Case {
         name: "all but one placed",
         facts: NO_LENGTH,
         front: &[(3, 1, 0), (2, 1, 0), (1, 1, 0), (4, 1, 0)],
@@ -319,24 +317,6 @@ const CASES: [Case; 20] = [
         tail: 5,
         works: &[Some(4)],
         lower: 5,
-        gap: None,
-    },
-    Case {
-        name: "no job placed, short or cheap",
-        facts: SHORT_OR_CHEAP,
-        front: &[],
-        tail: 2,
-        works: &[Some(2)],
-        lower: 2,
-        gap: None,
-    },
-    Case {
-        name: "a short job",
-        facts: SHORT_OR_CHEAP,
-        front: &[(1, 1, 0), (2, 1, 0)],
-        tail: 2,
-        works: &[Some(2)],
-        lower: 2,
         gap: None,
     },
     Case {
@@ -358,15 +338,6 @@ const CASES: [Case; 20] = [
         gap: Some(1),
     },
     Case {
-        name: "too little of both",
-        facts: TWO_GAPS,
-        front: &[],
-        tail: 2,
-        works: &[Some(2)],
-        lower: 2,
-        gap: Some(1),
-    },
-    Case {
         name: "too little of the second",
         facts: SECOND_GAP,
         front: &[],
@@ -374,24 +345,6 @@ const CASES: [Case; 20] = [
         works: &[Some(2)],
         lower: 2,
         gap: Some(2),
-    },
-    Case {
-        name: "no job placed, two levels",
-        facts: TWO_LEVELS,
-        front: &[],
-        tail: 4,
-        works: &[Some(4)],
-        lower: 4,
-        gap: None,
-    },
-    Case {
-        name: "the mode that asks for less",
-        facts: TWO_LEVELS,
-        front: &[(1, 1, 0), (2, 1, 0)],
-        tail: 4,
-        works: &[Some(4)],
-        lower: 4,
-        gap: None,
     },
     Case {
         name: "the mode that needs less",
@@ -417,6 +370,33 @@ const CASES: [Case; 20] = [
         front: &[],
         tail: 2,
         works: &[Some(1), Some(4)],
+        lower: 4,
+        gap: None,
+    },
+    Case {
+        name: "less at first",
+        facts: LESS_AT_FIRST,
+        front: &[],
+        tail: 3,
+        works: &[Some(5)],
+        lower: 5,
+        gap: None,
+    },
+    Case {
+        name: "after less at first",
+        facts: LESS_AT_FIRST,
+        front: &[(1, 1, 0), (2, 1, 2)],
+        tail: 5,
+        works: &[Some(6)],
+        lower: 6,
+        gap: None,
+    },
+    Case {
+        name: "a break",
+        facts: BREAK,
+        front: &[],
+        tail: 3,
+        works: &[Some(4)],
         lower: 4,
         gap: None,
     },

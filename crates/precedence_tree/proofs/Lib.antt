@@ -1,7 +1,12 @@
-pub mod SetBits
+pub mod Ordered
 pub mod Sums
-pub mod Fronts
-pub mod Needs
-pub mod Tallies
+pub mod Rests
+pub mod Chosen
+pub mod Actives
+pub mod Pushed
+pub mod StartSteps
+pub mod BreakSteps
+pub mod NodeSteps
 pub mod Branches
 pub mod Leaves
+pub mod Parts

@@ -1,3 +1,7 @@
-pub mod Tally
+pub mod Active
+pub mod Starts
+pub mod Needs
+pub mod Frontier
+pub mod Base
 pub mod Node
 pub mod Children

@@ -2,19 +2,30 @@
 //! the children of a node, and the schedule of a leaf.
 #![tactic(auto)]
 
+mod active;
+mod base;
 mod branch;
+mod breaks;
 mod budgets;
 mod causes;
+mod expanding;
+mod following;
 mod frontier;
 mod leaf;
-mod members;
+mod needs;
 mod node;
-mod tally;
+mod starts;
 #[cfg(test)]
 mod tests;
+mod works;
 
-pub use branch::{Children, child, children};
-pub use frontier::eligible;
+pub use active::Active;
+pub use base::{Base, Expansion};
+pub use branch::{Children, child, child_of, children, children_of, eligible};
+pub use expanding::expand;
+pub use following::follow;
 pub use leaf::{is_leaf, schedule};
+pub use needs::Needs;
 pub use node::Node;
 pub use rcpsp_model::{Child, Entry, Shut};
+pub use starts::last_of;

@@ -1,8 +1,11 @@
 ghost use Rattle.precedence_tree.specs.Node.{StandsFor};
 ghost use Rattle.precedence_tree.specs.Children.{StandsWherePlaced};
 
-use crate::{Child, Children, Entry, Node, Shut, child, children, eligible, is_leaf, schedule};
-use project_net::{Draft, DraftJob, Project, Schedule};
+use crate::{
+    Child, Children, Entry, Node, Shut, child, children, children_of, eligible, expand, follow,
+    is_leaf, schedule,
+};
+use project_net::{CalRow, Draft, DraftJob, Project, Schedule};
 use rcpsp_model::{Mode, Placing};
 use sched_base::{Job, JobSet, List};
 use std::alloc::{AllocError, Global};
@@ -15,12 +18,13 @@ type ModeRow = (u32, &'static [u32], &'static [u32]);
 /// A job by its modes and its successors.
 type JobRow = (&'static [ModeRow], &'static [u8]);
 
-/// A project by its jobs, its capacities and its budgets.
+/// A project by its jobs, its capacities, its budgets and its calendar.
 #[derive(Clone, Copy)]
 struct Facts {
     jobs: &'static [JobRow],
     capacities: &'static [u32],
     budgets: &'static [u32],
+    calendar: &'static [CalRow],
 }
 
 /// A job in a mode: placed at a start, or shut.
@@ -70,10 +74,12 @@ fn draft_of(alloc: Global, facts: Facts) -> Result<Draft, AllocError> {
     }
     let capacities = list(alloc, facts.capacities)?;
     let budgets = list(alloc, facts.budgets)?;
+    let calendar = facts.calendar.to_vec(alloc)?;
     Ok(Draft {
         jobs: List::from_vec(jobs),
         capacities,
         budgets,
+        calendar: List::from_vec(calendar),
     })
 }
 
@@ -84,7 +90,14 @@ fn project_of(alloc: Global, facts: Facts) -> Result<Project, Fail> {
 }
 
 /// The child of the node by a job in a mode.
-fn child_by(rt: &impl Abort, project: &Project, node: &Node, job: u8, mode: u8) -> Child<Node>
+fn child_by(
+    rt: &impl Abort,
+    alloc: Global,
+    project: &Project,
+    node: &Node,
+    job: u8,
+    mode: u8,
+) -> Child<Node>
     requires { StandsFor project.now node.now }
     ensures { StandsWherePlaced project.now result }
 {
@@ -93,15 +106,23 @@ fn child_by(rt: &impl Abort, project: &Project, node: &Node, job: u8, mode: u8) 
     assert!(rt; 1 <= mode && mode <= modes);
     let jobs = eligible(project, node);
     assert!(rt; jobs.has(Job(job)));
-    child(project, node, job, mode).expect(rt, "memory")
+    child(alloc, project, node, job, mode).expect(rt, "memory")
 }
 
 /// The node with the job placed in the mode, which has to start there.
-fn placed(rt: &impl Abort, project: &Project, node: &Node, job: u8, mode: u8, start: u32) -> Node
+fn placed(
+    rt: &impl Abort,
+    alloc: Global,
+    project: &Project,
+    node: &Node,
+    job: u8,
+    mode: u8,
+    start: u32,
+) -> Node
     requires { StandsFor project.now node.now }
     ensures { StandsFor project.now result }
 {
-    match child_by(rt, project, node, job, mode) {
+    match child_by(rt, alloc, project, node, job, mode) {
         Child::Placed(next) => {
             assert_eq!(rt; next.last(), start, "job {job}");
             next
@@ -114,9 +135,9 @@ fn placed(rt: &impl Abort, project: &Project, node: &Node, job: u8, mode: u8, st
 fn node_of(rt: &impl Abort, alloc: Global, project: &Project, front: &[(u8, u8, u32)]) -> Node
     ensures { StandsFor project.now result }
 {
-    let mut node = Node::root(alloc);
+    let mut node = Node::root();
     for (job, mode, start) in front {
-        node = placed(rt, project, &node, *job, *mode, *start);
+        node = placed(rt, alloc, project, &node, *job, *mode, *start);
     }
     node
 }
@@ -175,6 +196,7 @@ const NO_LENGTH: Facts = Facts {
     ],
     capacities: &[3],
     budgets: &[],
+    calendar: &[],
 };
 
 /// Jobs 2 and 3 of four ask together for more than there is.
@@ -187,6 +209,7 @@ const IN_TURN: Facts = Facts {
     ],
     capacities: &[3],
     budgets: &[],
+    calendar: &[],
 };
 
 /// Job 2 of four asks for more than there is.
@@ -199,6 +222,7 @@ const TOO_MUCH: Facts = Facts {
     ],
     capacities: &[3],
     budgets: &[],
+    calendar: &[],
 };
 
 /// Job 2 of four has a longer mode that asks for as much.
@@ -211,6 +235,7 @@ const LONGER_MODE: Facts = Facts {
     ],
     capacities: &[3],
     budgets: &[],
+    calendar: &[],
 };
 
 /// Jobs 2 and 3 of four have a short and a cheap mode.
@@ -223,6 +248,7 @@ const SHORT_OR_CHEAP: Facts = Facts {
     ],
     capacities: &[2],
     budgets: &[4],
+    calendar: &[],
 };
 
 /// Two jobs of which each uses up one of two budgets.
@@ -233,6 +259,31 @@ const TWO_BUDGETS: Facts = Facts {
     ],
     capacities: &[],
     budgets: &[3, 3],
+    calendar: &[],
+};
+
+/// The jobs that take turns, where at first there is less than either asks for.
+const LESS_AT_FIRST: Facts = Facts {
+    calendar: &[CalRow {
+        resource: 1,
+        begin: 0,
+        until: 2,
+        capacity: 1,
+    }],
+    ..IN_TURN
+};
+
+/// One job of three periods, and a break in the third one.
+const BREAK: Facts = Facts {
+    jobs: &[(&[(3, &[1], &[])], &[])],
+    capacities: &[1],
+    budgets: &[],
+    calendar: &[CalRow {
+        resource: 1,
+        begin: 2,
+        until: 3,
+        capacity: 0,
+    }],
 };
 
 const FOUR_PLACED: &[(u8, u8, u32)] = &[(3, 1, 0), (2, 1, 0), (1, 1, 0), (4, 1, 0)];
@@ -296,30 +347,25 @@ const CASES: [Case; 10] = [
         children: &[Line::Shut(3, 1, Shut::NoBudget(1)), Line::Placed(3, 2, 0)],
     },
     Case {
-        name: "two budgets",
-        facts: TWO_BUDGETS,
-        front: &[],
-        eligible: &[1, 2],
-        children: &[
-            Line::Placed(1, 1, 0),
-            Line::Placed(1, 2, 0),
-            Line::Placed(2, 1, 0),
-            Line::Placed(2, 2, 0),
-        ],
-    },
-    Case {
-        name: "the first budget used up",
-        facts: TWO_BUDGETS,
-        front: &[(1, 1, 0)],
-        eligible: &[2],
-        children: &[Line::Shut(2, 1, Shut::NoBudget(1)), Line::Placed(2, 2, 0)],
-    },
-    Case {
         name: "the second budget used up",
         facts: TWO_BUDGETS,
         front: &[(1, 2, 0)],
         eligible: &[2],
         children: &[Line::Placed(2, 1, 0), Line::Shut(2, 2, Shut::NoBudget(2))],
+    },
+    Case {
+        name: "less at first",
+        facts: LESS_AT_FIRST,
+        front: &[(1, 1, 0), (3, 1, 2)],
+        eligible: &[2],
+        children: &[Line::Placed(2, 1, 4)],
+    },
+    Case {
+        name: "no time before the break",
+        facts: BREAK,
+        front: &[],
+        eligible: &[1],
+        children: &[Line::Placed(1, 1, 3)],
     },
 ];
 
@@ -328,7 +374,8 @@ fn holds(rt: &impl Abort, alloc: Global, project: &Project, case: &Case) {
     let node = node_of(rt, alloc, project, case.front);
     let jobs = eligible(project, &node);
     assert!(rt; is_set(jobs, case.eligible), "{}", case.name);
-    let all = children(alloc, project, &node).expect(rt, "memory");
+    let expansion = expand(alloc, project, &node).expect(rt, "memory");
+    let all = children_of(alloc, project, &expansion).expect(rt, "memory");
     assert!(rt; are_lines(&all, case.children), "{}", case.name);
 }
 
@@ -342,11 +389,28 @@ fn children_of_fronts(rt: HostRuntime) -> Result<(), Fail> {
 }
 
 #[test]
+fn other_ways_to_a_child(rt: HostRuntime) -> Result<(), Fail> {
+    let project = project_of(rt.alloc(), BREAK)?;
+    let root = Node::root();
+    let all = children(rt.alloc(), &project, &root)?;
+    assert!(rt; are_lines(&all, &[Line::Placed(1, 1, 3)]));
+    let entry = Entry {
+        job: 1,
+        mode: 1,
+        start: 3,
+    };
+    assert!(rt; follow(rt.alloc(), &project, &root, entry)?.is_some());
+    let early = Entry { start: 0, ..entry };
+    assert!(rt; follow(rt.alloc(), &project, &root, early)?.is_none());
+    Ok(())
+}
+
+#[test]
 fn a_copy_is_apart(rt: HostRuntime) -> Result<(), Fail> {
     let project = project_of(rt.alloc(), NO_LENGTH)?;
     let node = node_of(&rt, rt.alloc(), &project, FOUR_PLACED);
     let copy = node.try_copy()?;
-    let leaf = placed(&rt, &project, &copy, 5, 1, 3);
+    let leaf = placed(&rt, rt.alloc(), &project, &copy, 5, 1, 3);
     assert_eq!(rt; (copy.depth(), copy.last(), copy.end()), (4, 0, 3));
     assert_eq!(rt; (node.depth(), node.last(), node.end()), (4, 0, 3));
     assert_eq!(rt; (leaf.depth(), leaf.last(), leaf.end()), (5, 3, 5));
@@ -384,10 +448,16 @@ fn schedule_of_a_leaf(rt: HostRuntime) -> Result<(), Fail> {
 fn what_a_node_keeps(rt: HostRuntime) -> Result<(), Fail> {
     let project = project_of(rt.alloc(), SHORT_OR_CHEAP)?;
     let node = node_of(&rt, rt.alloc(), &project, SHORT_PLACED);
-    assert_eq!(rt; (node.finish(1), node.finish(2), node.finish(3)), (0, 2, 0));
-    assert_eq!(rt; node.used(1), 3);
-    assert_eq!(rt; (project.jobs(), project.nonrenewables()), (4, 1));
+    let counts = (
+        project.jobs(),
+        project.renewables(),
+        project.nonrenewables(),
+    );
+    assert_eq!(rt; counts, (4, 1, 1));
+    assert_eq!(rt; node.used(&project, 1), 3);
     assert_eq!(rt; node.rest_need(&project, 1), 1);
-    assert_eq!(rt; (node.ready(&project, 3), node.ready(&project, 4)), (0, 2));
+    assert_eq!(rt; node.rest_work(&project, 1), 2);
+    assert!(rt; node.newest_active().is_some());
+    assert_eq!(rt; node.older_active(&project).len(), 0);
     Ok(())
 }

@@ -1,13 +1,18 @@
-use Rattle.std.proofs.Common.{sym, subst}
-use Rattle.rcpsp_model.specs.Schedule.{AreOf}
-use Rattle.rcpsp_model.proofs.FrontLemmas.{front-of}
+use Rattle.cutset_store.proofs.Compared.{comparable, beats-exactly}
 use Rattle.cutset_store.proofs.dominance.dominates.Goals as goal
 
-pub ends_by-requires : goal.ends_by-requires
-ends_by-requires c = subst (AreOf c.args.project.now) (sym c.entries-front.ensures) (front-of c.args.project.now c.args.a.now c.known.ensures.limits c.requires.front)
+pub beats-requires : goal.beats-requires
+beats-requires c =
+    comparable c.args.project.now c.known.ensures.limits c.args.a.now c.args.b.now.front c.facts_of_record-record.result c.facts_of_node-node.result c.requires.record c.requires.node.front c.facts_of_record-record.ensures c.facts_of_node-node.ensures
 
-pub holds_up_none-requires-clause-front : goal.holds_up_none-requires-clause-front
-holds_up_none-requires-clause-front c = subst (AreOf c.args.project.now) (sym c.entries-front.ensures) (front-of c.args.project.now c.args.a.now c.known.ensures.limits c.requires.front)
+pub returns-clause-value : goal.returns-clause-value
+returns-clause-value c =
+    let exactly = beats-exactly c.args.project.now c.known.ensures.acyclic c.args.a.now c.args.b.now.front c.facts_of_record-record.result c.facts_of_node-node.result c.requires.record c.requires.node.front c.facts_of_record-record.ensures c.facts_of_node-node.ensures
+    (c.has_its_jobs.ensures.0 c.if-not-has_its_jobs.false) in
+    (λ e. exactly.0 (c.beats.ensures.0 e), λ d. c.beats.ensures.1 (exactly.1 d))
 
-pub holds_up_none-requires-clause-other : goal.holds_up_none-requires-clause-other
-holds_up_none-requires-clause-other c = subst (AreOf c.args.project.now) (sym c.entries-other.ensures.value) (front-of c.args.project.now c.args.b.now.front c.known.ensures.limits c.requires.node.front)
+pub returns-clause-replaces : goal.returns-clause-replaces
+returns-clause-replaces c = λ e s completes.
+    let exactly = beats-exactly c.args.project.now c.known.ensures.acyclic c.args.a.now c.args.b.now.front c.facts_of_record-record.result c.facts_of_node-node.result c.requires.record c.requires.node.front c.facts_of_record-record.ensures c.facts_of_node-node.ensures
+    (c.has_its_jobs.ensures.0 c.if-not-has_its_jobs.false) in
+    c.dominance.ensures c.args.project.now c.args.a.now.front c.args.b.now.front s c.known.ensures.acyclic c.requires.record.front c.requires.node.front (exactly.0 (c.beats.ensures.0 e)) completes

@@ -1,27 +1,56 @@
-use Rattle.std.proofs.Common.{◌≡◌, ◌+◌, max, arith, sym, ◌∙◌, subst}
-use Rattle.rcpsp_model.specs.Project.{IsJob}
-use Rattle.rcpsp_model.specs.Bounds.{ready}
-use Rattle.rcpsp_model.proofs.TailLemmas.{has_tail_law}
-use Rattle.plan_bounds.proofs.TailSteps.{TailSoFar, tail-none, tail-placed, tail-open, tail-all}
+use Rattle.std.proofs.Common.{◌≤◌, arith, sym, subst, ◌∙◌}
+use Rattle.std.specs.Prelude.{Option}
+use Rattle.rcpsp_model.proofs.FrontLemmas.{front-end, last-le-end}
+use Rattle.precedence_tree.specs.declared.active.Active.{Active}
+use Rattle.precedence_tree.specs.Active.{AreActive, IsNamed}
+use Rattle.precedence_tree.specs.Node.{joined}
+use Rattle.precedence_tree.proofs.Actives.{active-named}
+use Rattle.precedence_tree.proofs.Parts.{older-all, newest-all}
+use Rattle.plan_bounds.proofs.Parts.{active-ends}
+use Rattle.plan_bounds.proofs.TailSteps.{bound-from}
 use Rattle.plan_bounds.proofs.chains.tail_bound_of.Goals as goal
-use Rattle.plan_bounds.proofs.chains.tail_bound_of.Goals.{then-not-has, else-not-has}
 
-pub loop-job-init : goal.loop-job-init
-loop-job-init c = tail-none c.args.p.now c.args.node.now.front _ (let end = c.requires.end in omega arith)
+pub overflow_add-ahead : goal.overflow_add-ahead
+overflow_add-ahead c = let last = c.last.ensures in let le = last-le-end c.args.project.now c.args.node.now.front in let end = front-end c.args.project.now c.args.node.now.front c.known.ensures.limits c.requires.front in let limit = c.longest_tail.ensures.limit in omega arith
 
-pub loop-job-preserved : goal.loop-job-preserved
-loop-job-preserved c =
-    let P = c.args.p.now in let F = c.args.node.now.front in let n = c.loop-job.job in let old = c.loop-job.bound in
-    let job : IsJob P n = (c.loop-job.auto.job, let t = c.loop-job-test.true in let e = c.jobs-job-end.ensures.value in omega arith) in
-    elim c.if-not-has.branch [
-      | then-not-has w ↦
-          tail-open P F n old c.if-not-has.bound w.tail.result job (sym (c.placed-placed.ensures n job.0) ∙ sym w.if-not-has.ensures) w.tail.ensures.value
-          (let now : c.if-not-has.bound ≡ max old (ready P F n + w.tail.result) = omega arith in now) c.loop-job.invariant
-      | else-not-has w ↦
-          subst (TailSoFar P F (n + 1)) (sym w.bound-is) (tail-placed P F n old (sym (c.placed-placed.ensures n job.0) ∙ sym w.if-not-has.ensures) c.loop-job.invariant)
-    ]
+-- the active jobs, as the node keeps them
+active : (c : goal.After-max-first) → AreActive c.args.project.now c.args.node.now.front (joined c.newest_active-newest.result c.older_active-older.result.now)
+active c = subst (λ (o : Option Active). AreActive c.args.project.now c.args.node.now.front (joined o c.older_active-older.result.now)) (sym c.newest_active-newest.ensures) c.older_active-older.ensures.active
 
-pub returns : goal.returns
-returns c =
-    tail-all c.args.p.now c.known.ensures.acyclic c.args.node.now.front c.loop-job.job c.loop-job.bound c.requires.front
-    (let n = c.jobs-job-end.ensures.value in let out = c.loop-job-test.false in omega arith) (λ j job. has_tail_law c.args.p.now j c.known.ensures.acyclic job) c.loop-job.invariant
+pub latest_after_newest-bound-requires-clause-named : goal.latest_after_newest-bound-requires-clause-named
+latest_after_newest-bound-requires-clause-named c =
+    newest-all (IsNamed c.args.project.now) c.newest_active-newest.result c.older_active-older.result.now (active-named c.args.project.now c.args.node.now.front (joined c.newest_active-newest.result c.older_active-older.result.now) c.requires.front (active c))
+
+pub latest_after_newest-bound-requires-clause-finishes : goal.latest_after_newest-bound-requires-clause-finishes
+latest_after_newest-bound-requires-clause-finishes c =
+    newest-all (λ (a : Active). a.finish ≤ 1290000) c.newest_active-newest.result c.older_active-older.result.now
+    (active-ends c.args.project.now c.args.node.now.front (joined c.newest_active-newest.result c.older_active-older.result.now) c.known.ensures.limits c.requires.front (active c))
+
+pub latest_after_newest-bound-requires-clause-floor : goal.latest_after_newest-bound-requires-clause-floor
+latest_after_newest-bound-requires-clause-floor c =
+    let last = c.last.ensures in
+    let le = last-le-end c.args.project.now c.args.node.now.front in
+    let end = front-end c.args.project.now c.args.node.now.front c.known.ensures.limits c.requires.front in
+    let limit = c.longest_tail.ensures.limit in
+    let own = c.end.ensures in
+    let is = c.requires.end in
+    let most = c.max-first.ensures in
+    omega arith
+
+pub latest_after-requires-clause-named : goal.latest_after-requires-clause-named
+latest_after-requires-clause-named c =
+    older-all (IsNamed c.args.project.now) c.newest_active-newest.result c.older_active-older.result.now
+    (active-named c.args.project.now c.args.node.now.front (joined c.newest_active-newest.result c.older_active-older.result.now) c.requires.front
+    (subst (λ (o : Option Active). AreActive c.args.project.now c.args.node.now.front (joined o c.older_active-older.result.now)) (sym c.newest_active-newest.ensures) c.older_active-older.ensures.active))
+
+pub latest_after-requires-clause-finishes : goal.latest_after-requires-clause-finishes
+latest_after-requires-clause-finishes c =
+    older-all (λ (a : Active). a.finish ≤ 1290000) c.newest_active-newest.result c.older_active-older.result.now
+    (active-ends c.args.project.now c.args.node.now.front (joined c.newest_active-newest.result c.older_active-older.result.now) c.known.ensures.limits c.requires.front
+    (subst (λ (o : Option Active). AreActive c.args.project.now c.args.node.now.front (joined o c.older_active-older.result.now)) (sym c.newest_active-newest.ensures) c.older_active-older.ensures.active))
+
+pub returns-clause-value : goal.returns-clause-value
+returns-clause-value c =
+    bound-from c.args.project.now c.known.ensures.acyclic c.args.node.now.front c.newest_active-newest.result c.older_active-older.result.now c.eligible.result c.last.result c.end.result c.longest_tail.result c.max-first.result c.latest_after_newest-bound.result c.latest_after.result c.requires.front
+    (subst (λ (o : Option Active). AreActive c.args.project.now c.args.node.now.front (joined o c.older_active-older.result.now)) (sym c.newest_active-newest.ensures) c.older_active-older.ensures.active)
+    c.eligible.ensures c.last.ensures (c.end.ensures ∙ c.requires.end) c.longest_tail.ensures.value c.max-first.ensures c.latest_after_newest-bound.ensures.value c.latest_after.ensures.value

@@ -1,6 +1,0 @@
-use Rattle.std.proofs.Common.{◌≡◌, ◌*◌, ◌≤◌, take}
-use Rattle.rcpsp_model.specs.Schedule.{used}
-use Rattle.cutset_store.proofs.needs.used_by.Given as goal
-
-abbrev pub invariant-loop-entry : goal.invariant-loop-entry
-invariant-loop-entry l = (l.sum ≡ used l.project (take l.entry-index l.entries) l.resource) × (l.sum ≤ 1000000 * l.entry-index)
