@@ -15,7 +15,7 @@ use Rattle.proof_log.specs.declared.line.LogWords.{LogWords}
 use Rattle.proof_log.specs.declared.report.LogLine.{LogLine}
 use Rattle.proof_log.specs.declared.report.Report.{Report}
 use Rattle.proof_log.specs.Line.{IsNumber, IsPlace, IsLine, has_number, is_bare, is_shut}
-use Rattle.proof_log.specs.Report.{duration_of, lower_of, letter_of, number_of, IsInnerLine, IsLog, IsPlan, IsReport}
+use Rattle.proof_log.specs.Report.{duration_of, lower_of, letter_of, fate_number, IsInnerLine, IsLog, IsPlan, IsReport}
 use Rattle.proof_log.specs.Text.{verdict_line, best_part, from_one, log_words, log_lines, log_part, lines_of, job_lines}
 use Rattle.proof_log.specs.Laws.{HasBytes, OneReportLaw}
 use Rattle.proof_log.proofs.LinesLemmas.{one_list}
@@ -43,7 +43,7 @@ letter_known (Worse n) = refl
 letter_known (Cutset n) = refl
 letter_known (Left n) = refl
 
-number_none : (fate : Fate) → has_number (letter_of fate) ≡ false → number_of fate ≡ 0
+number_none : (fate : Fate) → has_number (letter_of fate) ≡ false → fate_number fate ≡ 0
 number_none Expanded h = refl
 number_none Leaf h = refl
 number_none TailBound h = refl
@@ -159,7 +159,7 @@ fate_from letter number =
     cond (letter == 69) Expanded (cond (letter == 76) Leaf (cond (letter == 84) TailBound (cond (letter == 87) (WorkBound number) (cond (letter == 78) (Budget number)
     (cond (letter == 88) (Capacity number) (cond (letter == 77) (Worse number) (cond (letter == 67) (Cutset number) (Left number))))))))
 
-fate_again : (fate : Fate) → fate_from (letter_of fate) (number_of fate) ≡ fate
+fate_again : (fate : Fate) → fate_from (letter_of fate) (fate_number fate) ≡ fate
 unfolding fate_from
 fate_again Expanded = refl
 fate_again Leaf = refl
@@ -190,8 +190,8 @@ line_from w = record { job = to_number w.job; mode = to_number w.mode; start = w
 line_from_words : (line : LogLine) → line_from (log_words line) ≡ line
 unfolding line_from
 line_from_words line =
-    ap (λ (j : ℕ). let l : LogLine = record { job = j; mode = to_number (from_one line.mode); start = line.start; fate = fate_from (letter_of line.fate) (number_of line.fate) } in l) (from_one_again line.job)
-    ∙ ap (λ (m : ℕ). let l : LogLine = record { job = line.job; mode = m; start = line.start; fate = fate_from (letter_of line.fate) (number_of line.fate) } in l) (from_one_again line.mode)
+    ap (λ (j : ℕ). let l : LogLine = record { job = j; mode = to_number (from_one line.mode); start = line.start; fate = fate_from (letter_of line.fate) (fate_number line.fate) } in l) (from_one_again line.job)
+    ∙ ap (λ (m : ℕ). let l : LogLine = record { job = line.job; mode = m; start = line.start; fate = fate_from (letter_of line.fate) (fate_number line.fate) } in l) (from_one_again line.mode)
     ∙ ap (λ (f : Fate). let l : LogLine = record { job = line.job; mode = line.mode; start = line.start; fate = f } in l) (fate_again line.fate)
 
 same_line : (a b : LogLine) → Log (log_words a) ≡ Log (log_words b) → a ≡ b

@@ -34,23 +34,23 @@ letter_of (Cutset line) = CUTSET
 letter_of (Left bound) = LEFT
 
 -- its number, 0 where it has none
-abbrev pub number_of : Fate → ℕ
-number_of Expanded = 0
-number_of Leaf = 0
-number_of TailBound = 0
-number_of (WorkBound resource) = resource
-number_of (Budget resource) = resource
-number_of (Capacity resource) = resource
-number_of (Worse mode) = mode
-number_of (Cutset line) = line
-number_of (Left bound) = bound
+abbrev pub fate_number : Fate → ℕ
+fate_number Expanded = 0
+fate_number Leaf = 0
+fate_number TailBound = 0
+fate_number (WorkBound resource) = resource
+fate_number (Budget resource) = resource
+fate_number (Capacity resource) = resource
+fate_number (Worse mode) = mode
+fate_number (Cutset line) = line
+fate_number (Left bound) = bound
 
 -- the root has neither job, mode nor start
 pub record IsRootLine (line : LogLine) : Type 0 where
   pub job : line.job ≡ 0
   pub mode : line.mode ≡ 0
   pub start : line.start ≡ None
-  pub number : IsNumber (number_of line.fate)
+  pub number : IsNumber (fate_number line.fate)
 
 -- any other line has a job and a mode, and a start unless the child is shut
 pub record IsInnerLine (line : LogLine) : Type 0 where
@@ -58,7 +58,7 @@ pub record IsInnerLine (line : LogLine) : Type 0 where
   pub mode : 1 ≤ line.mode
   pub start : IfSome line.start IsNumber
   pub shut : is_some line.start ≡ not (is_shut (letter_of line.fate))
-  pub number : IsNumber (number_of line.fate)
+  pub number : IsNumber (fate_number line.fate)
 
 -- the root stands on the first line, and there alone
 abbrev pub IsLog : List LogLine → Type 0

@@ -10,7 +10,7 @@ use Rattle.proof_log.specs.declared.line.ReportLine.TheVariants.{Title, Optimal,
 use Rattle.proof_log.specs.declared.report.LogLine.{LogLine}
 use Rattle.proof_log.specs.declared.report.Report.{Report}
 use Rattle.proof_log.specs.Line.{line_text}
-use Rattle.proof_log.specs.Report.{duration_of, lower_of, letter_of, number_of}
+use Rattle.proof_log.specs.Report.{duration_of, lower_of, letter_of, fate_number}
 
 abbrev pub verdict_line : Verdict → ReportLine
 verdict_line (verdicts.Optimal duration) = Optimal
@@ -34,7 +34,7 @@ abbrev pub from_one : ℕ → Option ℕ
 from_one n = if n == 0 then None else Some n
 
 abbrev pub log_words : LogLine → LogWords
-log_words line = record { job = from_one line.job; mode = from_one line.mode; start = line.start; letter = letter_of line.fate; number = number_of line.fate }
+log_words line = record { job = from_one line.job; mode = from_one line.mode; start = line.start; letter = letter_of line.fate; number = fate_number line.fate }
 
 -- a line for each line of the log
 abbrev pub log_lines : List LogLine → List ReportLine

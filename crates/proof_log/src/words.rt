@@ -1,5 +1,5 @@
 ghost use Rattle.std.specs.Prelude.{◌≡◌};
-ghost use Rattle.proof_log.specs.Report.{letter_of, number_of};
+ghost use Rattle.proof_log.specs.Report.{letter_of, fate_number};
 ghost use Rattle.proof_log.specs.Text.{from_one, log_words};
 
 use crate::letter;
@@ -26,7 +26,7 @@ fn letter(fate: Fate) -> u8
 
 /// The number of a fate, 0 where it has none.
 fn number(fate: Fate) -> u32
-    ensures { result ≡ number_of fate }
+    ensures { result ≡ fate_number fate }
 {
     match fate {
         Fate::Expanded | Fate::Leaf | Fate::TailBound => 0,

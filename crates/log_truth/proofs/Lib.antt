@@ -1,0 +1,16 @@
+pub mod LogLemmas
+pub mod FrontLemmas
+pub mod UniqueLemmas
+pub mod GapLemmas
+pub mod LateLemmas
+pub mod TruthLemmas
+pub mod AcceptLemmas
+pub mod RefusalLemmas
+pub mod WalkLemmas
+pub mod RoomLemmas
+pub mod DecideLemmas
+pub mod FoundLemmas
+pub mod LineTests
+pub mod HoldsTests
+pub mod WantsTests
+pub mod ExampleLemmas

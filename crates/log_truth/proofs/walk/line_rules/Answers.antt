@@ -1,0 +1,5 @@
+use Rattle.log_truth.proofs.RefusalLemmas.{three_rules_law}
+use Rattle.log_truth.proofs.walk.line_rules.Goals as goal
+
+pub returns : goal.returns
+returns c = three_rules_law

@@ -1,0 +1,24 @@
+ghost use Rattle.log_truth.specs.Laws.{JoinedLaw, AloneLaw, BelowLaw, OneNodeLaw, NodeFrontLaw, OneLineLaw, FrontNumberLaw, GapLogLaw};
+
+/// The log of a branch is its line and then the logs of the branches below it, each whole, one after another.
+#[tactic(auto, using(crate::proofs::LogLemmas::joined_law, crate::proofs::LogLemmas::alone_law, crate::proofs::LogLemmas::below_law))]
+pub fn joined()
+    ensures logs { JoinedLaw }
+    ensures alone { AloneLaw }
+    ensures below { BelowLaw }
+{}
+
+/// Each line of a log has one node, and no front has two lines: a front that has one is known by its number.
+#[tactic(auto, using(crate::proofs::UniqueLemmas::one_node_law, crate::proofs::FrontLemmas::node_front_law, crate::proofs::UniqueLemmas::one_line_law, crate::proofs::UniqueLemmas::front_number_law))]
+pub fn one_line()
+    ensures node { OneNodeLaw }
+    ensures front { NodeFrontLaw }
+    ensures line { OneLineLaw }
+    ensures number { FrontNumberLaw }
+{}
+
+/// Where the root has a budget gap, the log is the line that names it.
+#[tactic(auto, using(crate::proofs::GapLemmas::gap_log_law))]
+pub fn gap_log()
+    ensures { GapLogLaw }
+{}
