@@ -4,7 +4,8 @@ use Rattle.atomic_table.proofs.Lists.{set_here, set_else}
 use Rattle.search_table.specs.declared.view.PassView.{PassView}
 use Rattle.search_table.specs.Lists.{least}
 use Rattle.search_table.specs.Views.{with_offer, joint_view, spent_view}
-use Rattle.search_table.specs.Rule.{At, IsLive, IsBest}
+use Rattle.search_table.specs.Passes.{At, IsLive}
+use Rattle.search_table.specs.Rule.{IsBest}
 use Rattle.search_table.proofs.Totals.{At-below, EachView-set, EachView-snoc}
 use Rattle.search_table.proofs.LeastOffers.{least-append, least_offer-le, least_offer-at, least_offer-set, least_offer-snoc}
 

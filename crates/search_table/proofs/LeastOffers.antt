@@ -3,7 +3,8 @@ use Rattle.std.proofs.Common.{◌≡◌, ℕ, zero, suc, ◌≤◌, List, [], �
 use mathlib.Core.Option.{some-injective, some-ne-none}
 use Rattle.search_table.specs.declared.view.PassView.{PassView}
 use Rattle.search_table.specs.Lists.{least}
-use Rattle.search_table.specs.Rule.{least_offer, total, passes_of, At, EachView}
+use Rattle.search_table.specs.Passes.{At, EachView, total}
+use Rattle.search_table.specs.Rule.{least_offer, passes_of}
 use Rattle.search_table.proofs.Totals.{le-total}
 
 pub least-le : (start : ℕ) (ends : List ℕ) → least start ends ≤ start

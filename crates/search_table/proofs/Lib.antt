@@ -4,6 +4,8 @@ pub mod BestSteps
 pub mod TicketSteps
 pub mod SplitWorkers
 pub mod NumberSteps
+pub mod CountSums
+pub mod CountSteps
 pub mod Words
 pub mod Steps
 pub mod Ends

@@ -5,7 +5,8 @@ use Rattle.atomic_table.proofs.Lists.{at_set}
 use Rattle.search_table.specs.declared.view.PassView.{PassView}
 use Rattle.search_table.specs.Lists.{Has, Lacks}
 use Rattle.search_table.specs.Views.{with_worker, worker_view, joint_view, spent_view}
-use Rattle.search_table.specs.Rule.{total, passes_of, At, IsLive, AreOf, AreNumbered}
+use Rattle.search_table.specs.Passes.{At, IsLive, total}
+use Rattle.search_table.specs.Rule.{passes_of, AreOf, AreNumbered}
 use Rattle.search_table.proofs.Totals.{At-snoc, total-set, total-snoc}
 use Rattle.search_table.proofs.SplitWorkers.{once_more, Has-before, Has-last, Has-snoc, length-le}
 

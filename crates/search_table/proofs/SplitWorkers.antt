@@ -1,5 +1,5 @@
 -- The workers that were split off: a list in which each stands once.
-use Rattle.std.proofs.Common.{◌≡◌, ℕ, ◌+◌, ◌<◌, ◌≤◌, ◌⊎◌, ◌||◌, Bool, true, false, nat_eq, List, [], ◌∷◌, ◌++◌, length, sym, refl, ap, ◌∙◌, inl, inr, arith, length-append}
+use Rattle.std.proofs.Common.{◌≡◌, ◌≢◌, true≢false, ℕ, ◌+◌, ◌<◌, ◌≤◌, ◌⊎◌, ◌||◌, Bool, true, false, nat_eq, List, [], ◌∷◌, ◌++◌, length, sym, refl, ap, ◌∙◌, inl, inr, arith, length-append}
 use Rattle.std.proofs.lemmas.Bool.Decides.{nat_tests}
 use Rattle.std.proofs.lemmas.Cmp.{nat_eq_equiv}
 use Rattle.std.specs.List.{list_any, IsDistinct}
@@ -31,6 +31,17 @@ Has-snoc ws w q h = cases (list_any (nat_eq q) ws) refl (sym (list_any-append (n
     cases : (b : Bool) → list_any (nat_eq q) ws ≡ b → (b || (nat_eq q w || false)) ≡ true → Has ws q ⊎ (q ≡ w)
     cases true e _ = inl e
     cases false e o = inr (grind (arith, nat_tests))
+
+-- where the longer list lacks a worker, the list lacks it, and it is another than the last
+pub Lacks-before : (ws : List ℕ) (w q : ℕ) → Lacks (ws ++ w ∷ []) q → Lacks ws q
+Lacks-before ws w q out = by_test (list_any (nat_eq q) ws) refl
+  where
+    by_test : (b : Bool) → list_any (nat_eq q) ws ≡ b → b ≡ false
+    by_test true e = absurd (true≢false (sym (Has-before ws w q e) ∙ out))
+    by_test false e = refl
+
+pub Lacks-last : (ws : List ℕ) (w q : ℕ) → Lacks (ws ++ w ∷ []) q → q ≢ w
+Lacks-last ws w q out e = true≢false (sym (Has-last ws w) ∙ (ap (λ (x : ℕ). list_any (nat_eq x) (ws ++ w ∷ [])) (sym e) ∙ out))
 
 -- distinct workers from 1 to n are at most n
 pub length-le : (n : ℕ) (ws : List ℕ) → IsDistinct nat_eq ws → ((q : ℕ) → Has ws q → (0 < q) × (q ≤ n)) → length ws ≤ n

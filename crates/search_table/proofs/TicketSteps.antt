@@ -2,7 +2,8 @@
 use Rattle.std.proofs.Common.{◌≡◌, ℕ, ◌+◌, ◌<◌, ◌≤◌, List, [], ◌∷◌, ◌++◌, set, arith}
 use Rattle.search_table.specs.declared.view.PassView.{PassView}
 use Rattle.search_table.specs.Views.{with_ticket, with_refusal, joint_view, spent_view}
-use Rattle.search_table.specs.Rule.{total, won_of, refused_of, passes_of, At, IsLive, AreDrawn}
+use Rattle.search_table.specs.Passes.{At, IsLive, total}
+use Rattle.search_table.specs.Rule.{won_of, refused_of, passes_of, AreDrawn}
 use Rattle.search_table.proofs.Totals.{EachView-set, EachView-snoc, total-set, total-snoc, total-le, le-total}
 
 -- a view changes, and its draws stay

@@ -3,7 +3,7 @@ use Rattle.std.proofs.Common.{◌≡◌, ◌≢◌, ℕ, zero, suc, ◌+◌, ◌
 use mathlib.Core.Option.{some-injective, some-ne-none}
 use Rattle.atomic_table.proofs.Lists.{at_set}
 use Rattle.search_table.specs.declared.view.PassView.{PassView}
-use Rattle.search_table.specs.Rule.{total, passes_of, At, EachView}
+use Rattle.search_table.specs.Passes.{At, EachView, total}
 
 pub At-below : (vs : List PassView) (j : ℕ) (u : PassView) → At vs j u → j < length vs
 At-below [] j u e = absurd (some-ne-none u (sym e))
@@ -32,6 +32,10 @@ pub total-snoc : (f : PassView → ℕ) (vs : List PassView) (w : PassView) → 
 total-snoc f [] w = omega arith
 total-snoc f (x ∷ xs) w = let r = total-snoc f xs w in omega arith
 
+-- a property of each view of none
+pub nobody : (P : PassView → Type 0) → EachView P []
+nobody P i v e = absurd (some-ne-none v (sym e))
+
 pub total-le : (f g : PassView → ℕ) (vs : List PassView) → EachView (λ v. f v ≤ g v) vs → total f vs ≤ total g vs
 total-le f g [] h = omega arith
 total-le f g (x ∷ xs) h = let a = h zero x refl in let r = total-le f g xs (λ i v e. h (suc i) v e) in omega arith
@@ -41,17 +45,17 @@ le-total f [] i v e = absurd (some-ne-none v (sym e))
 le-total f (x ∷ xs) zero v e = let is : f x ≡ f v = ap f (some-injective x v e) in omega arith
 le-total f (x ∷ xs) (suc i) v e = let r = le-total f xs i v e in omega arith
 
--- where no pass is there, the views have nothing of what only such passes have
-total-none : (f : PassView → ℕ) (vs : List PassView) → total passes_of vs ≡ 0 → EachView (λ v. v.passes ≡ 0 → f v ≡ 0) vs → total f vs ≡ 0
-total-none f [] none h = refl
-total-none f (x ∷ xs) none h = let a = h zero x refl (omega arith) in let r = total-none f xs (omega arith) (λ j u e. h (suc j) u e) in omega arith
+-- where no view has any of g, the views have nothing of what only those with some of g have
+total-none : (g f : PassView → ℕ) (vs : List PassView) → total g vs ≡ 0 → EachView (λ v. g v ≡ 0 → f v ≡ 0) vs → total f vs ≡ 0
+total-none g f [] none h = refl
+total-none g f (x ∷ xs) none h = let a = h zero x refl (omega arith) in let r = total-none g f xs (omega arith) (λ j u e. h (suc j) u e) in omega arith
 
--- where one view stands for all passes, it has all
-pub total-one : (f : PassView → ℕ) (vs : List PassView) (i : ℕ) (v : PassView) → At vs i v → total passes_of vs ≡ v.passes → EachView (λ u. u.passes ≡ 0 → f u ≡ 0) vs → total f vs ≡ f v
-total-one f [] i v e all h = absurd (some-ne-none v (sym e))
-total-one f (x ∷ xs) zero v e all h =
-    let is : x ≡ v = some-injective x v e in let p : x.passes ≡ v.passes = ap passes_of is in let q : f x ≡ f v = ap f is in
-    let r = total-none f xs (omega arith) (λ j u e. h (suc j) u e) in omega arith
-total-one f (x ∷ xs) (suc i) v e all h =
-    let a = le-total passes_of xs i v e in let n = h zero x refl (omega arith) in
-    let r = total-one f xs i v e (omega arith) (λ j u e. h (suc j) u e) in omega arith
+-- where one view has all of g, it has all of f
+pub total-one : (g f : PassView → ℕ) (vs : List PassView) (i : ℕ) (v : PassView) → At vs i v → total g vs ≡ g v → EachView (λ u. g u ≡ 0 → f u ≡ 0) vs → total f vs ≡ f v
+total-one g f [] i v e all h = absurd (some-ne-none v (sym e))
+total-one g f (x ∷ xs) zero v e all h =
+    let is : x ≡ v = some-injective x v e in let p : g x ≡ g v = ap g is in let q : f x ≡ f v = ap f is in
+    let r = total-none g f xs (omega arith) (λ j u e. h (suc j) u e) in omega arith
+total-one g f (x ∷ xs) (suc i) v e all h =
+    let a = le-total g xs i v e in let n = h zero x refl (omega arith) in
+    let r = total-one g f xs i v e (omega arith) (λ j u e. h (suc j) u e) in omega arith

@@ -5,11 +5,23 @@ use Rattle.search_table.specs.declared.table.Draw.{Draw}
 use Rattle.search_table.specs.declared.table.Draw.TheVariants.{Ticket, Spent}
 use Rattle.search_table.specs.Views.{with_ticket, with_refusal}
 
--- where n tickets had been drawn before: below the quota the pass wins one, and from the quota on it is refused and told n
+-- where n tickets, fewer than the quota, had been drawn before, the pass wins one
+pub record IsWon (n : ℕ) (before after : PassView) : Type 0 where
+  pub under : n < before.terms.quota
+  pub view : after ≡ with_ticket before
+
+-- where n tickets, at least the quota, had been drawn before, the pass is refused and told n
+pub record IsRefused (n told : ℕ) (before after : PassView) : Type 0 where
+  pub over : before.terms.quota ≤ n
+  pub view : after ≡ with_refusal before
+  pub number : told ≡ n
+
 abbrev pub DrawnAfter : ℕ → PassView → PassView → Draw → Type 0
-DrawnAfter n before after Ticket = (n < before.terms.quota) × (after ≡ with_ticket before)
-DrawnAfter n before after (Spent told) = (before.terms.quota ≤ n) × (after ≡ with_refusal before) × (told ≡ n)
+DrawnAfter n before after Ticket = IsWon n before after
+DrawnAfter n before after (Spent told) = IsRefused n told before after
 
 -- a number of tickets had been drawn before, the pass's own among them
-abbrev pub Drawn : PassView → PassView → Draw → Type 0
-Drawn before after answer = (n : ℕ) × (before.won + before.refused ≤ n) × DrawnAfter n before after answer
+pub record Drawn (before after : PassView) (answer : Draw) : Type 0 where
+  pub earlier : ℕ
+  pub own : before.won + before.refused ≤ earlier
+  pub outcome : DrawnAfter earlier before after answer

@@ -1,6 +1,10 @@
 pub mod Lists
+pub mod Counts
 pub mod Views
+pub mod Passes
 pub mod Rule
+pub mod CountRule
+pub mod BetweenSteps
 pub mod Steps
-pub mod PassModel
+pub mod PassState
 pub mod Drawn

@@ -1,29 +1,10 @@
--- The rule of the table: what holds of its words and of the views of all passes between any two steps, whoever makes them.
-use Rattle.std.specs.Prelude.{◌≡◌, ℕ, ◌+◌, ◌<◌, ◌≤◌, ◌⊎◌, List, [], ◌∷◌, length, slice_index, min, nat_eq}
+-- The rule of the two words: what holds of the best, of the tickets and of the views of all passes between any two steps, whoever makes them.
+use Rattle.std.specs.Prelude.{◌≡◌, ℕ, ◌+◌, ◌<◌, ◌≤◌, ◌⊎◌, List, [], ◌∷◌, length, min, nat_eq}
 use Rattle.std.specs.List.{IsDistinct}
-use mathlib.Core.Option.{some}
-use lib.ListN.{get_elem?}
-use Rattle.atomic_table.specs.Table.{State}
 use Rattle.search_table.specs.declared.view.PassView.{PassView}
 use Rattle.search_table.specs.declared.view.RoundTerms.{RoundTerms}
 use Rattle.search_table.specs.Lists.{least, Has}
-
--- the pass is there: it was not joined into another
-abbrev pub IsLive : PassView → Type 0
-IsLive v = 0 < v.passes
-
--- view number i, from 0, is v
-abbrev pub At : List PassView → ℕ → PassView → Type 0
-At views i v = get_elem? views i ≡ some v
-
--- each view has the property
-abbrev pub EachView : (PassView → Type 0) → List PassView → Type 0
-EachView P views = (i : ℕ) (v : PassView) → At views i v → P v
-
--- the sum of a number of each view
-abbrev pub total : (PassView → ℕ) → List PassView → ℕ
-total f [] = 0
-total f (v ∷ views) = f v + total f views
+use Rattle.search_table.specs.Passes.{IsLive, At, EachView, total}
 
 -- how many tickets a pass won, how many it was refused, and how many passes it stands for
 abbrev pub won_of : PassView → ℕ
@@ -76,7 +57,3 @@ pub record KeepsRound (terms : RoundTerms) (b t : ℕ) (views : List PassView) :
   pub tickets : AreDrawn terms.quota t views
   pub numbers : AreNumbered terms.workers views
   pub each : EachView (IsOfRound terms) views
-
--- the table has two words: word 0 is the best, word 1 the tickets
-abbrev pub HoldsBetweenSteps : RoundTerms → State (Unit {0}) PassView → Type 0
-HoldsBetweenSteps terms s = (length s.words ≡ 2) × KeepsRound terms (slice_index s.words 0) (slice_index s.words 1) s.views

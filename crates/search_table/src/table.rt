@@ -1,11 +1,15 @@
-// The table of a round.
-ghost use Rattle.std.specs.Prelude.{◌≡◌, ◌+◌, ◌<◌, ◌≤◌, [], ◌∷◌, length, min, IfOk};
+ghost use Rattle.std.specs.Prelude.{◌≡◌, ◌≢◌, ℕ, ◌+◌, ◌<◌, ◌≤◌, [], length, min, IfOk};
 ghost use Rattle.atomic_table.specs.Seated.{TableId};
 ghost use Rattle.search_table.specs.Lists.{Lacks, least};
-ghost use Rattle.search_table.specs.Views.{first_view, with_best, with_offer, with_worker, worker_view, joint_view};
+ghost use Rattle.search_table.specs.Counts.{made_by, seen_of};
+ghost use Rattle.search_table.specs.Passes.{IsLive};
+ghost use Rattle.search_table.specs.Views.{first_view, with_best, with_offer, with_publication, with_count, with_worker, worker_view, joint_view};
 
 use crate::pass::Pass;
-use crate::rule::{DrawTicket, JoinPasses, LoadBest, NextWorker, OfferEnd, RoundRule, SplitWorker};
+use crate::rule::{
+    DrawTicket, JoinPasses, LoadBest, LoadCount, NextWorker, OfferEnd, PublishOne, RoundRule,
+    SplitWorker,
+};
 use crate::view::{PassView, RoundTerms};
 use atomic_table::{Seat, Table};
 use sched_base::NoMemory;
@@ -14,12 +18,16 @@ use std::marker::{Brand, Model};
 
 type Words = Table<(), PassView, RoundTerms, RoundRule, Global>;
 
-// The places of the two words.
+/// The place of the best among the words.
 const BEST: usize = 0;
 
+/// The place of the tickets.
 const TICKETS: usize = 1;
 
-/// The best end and the tickets of one round. Its workers share it by reference.
+/// How many words there are at most: two, and one for each worker.
+const MOST_WORDS: usize = 34;
+
+/// The best end, the tickets and the published counts of one round. Its workers share it by reference.
 #[derive(Drop)]
 pub struct RoundTable {
     words: Words,
@@ -30,8 +38,7 @@ impl Model for RoundTable {
 
     ghost view = { λ t. t.words.shared.table_id };
 
-    ghost invariant = { λ t. (t.words.shared.table_id.words ≡ 2)
-        × (t.words.shared.table_id.slots ≡ 0) };
+    ghost invariant = { λ t. t.words.shared.table_id.slots ≡ 0 };
 }
 
 /// The answer to a draw.
@@ -55,8 +62,8 @@ pub struct RoundEnd {
 impl RoundTable {
     ghost use Rattle.search_table.specs.Drawn.{Drawn};
 
-    /// A table whose best is the given one, in periods, and from which no ticket was drawn, and the
-    /// pass of number 0.
+    /// A table whose best is the given one, in periods, from which no ticket was drawn and where nobody has published,
+    /// and the pass of number 0.
     ///
     /// `workers` is 1 to 32, and the quota at most 4,096. Only want of memory is an error.
     pub fn new(
@@ -65,7 +72,8 @@ impl RoundTable {
         quota: u64,
         workers: u32,
     ) -> Result<(RoundTable, Pass), NoMemory>
-        requires workers { (0 < workers) × (workers ≤ 32) }
+        requires low { 1 ≤ workers }
+        requires high { workers ≤ 32 }
         requires quota { quota ≤ 4096 }
         ensures table { IfOk result (λ p. p.1.table ≡ p.0) }
         ensures view { IfOk result (λ p. p.1.view
@@ -76,10 +84,14 @@ impl RoundTable {
             quota,
             workers: workers as u64,
         };
-        let (words, seat) = Words::of_words(alloc, &[best, 0], &terms)?;
+        let mut first = [0; MOST_WORDS];
+        first[BEST] = best;
+        let count = 2 + workers as usize;
+        let (words, seat) = Words::of_words(alloc, &first[..count], &terms)?;
         let pass = Pass {
             number: 0,
             terms,
+            own: 0,
             seat,
         };
         Ok((RoundTable { words }, pass))
@@ -91,23 +103,27 @@ impl RoundTable {
     pub fn split(&self, pass: &mut Pass, worker: u32) -> Pass
         requires table { pass.old.table ≡ self.now }
         requires first { pass.old.view.number ≡ 0 }
-        requires worker { (0 < worker) × (worker ≤ pass.old.view.terms.workers) }
+        requires low { 1 ≤ worker }
+        requires high { worker ≤ pass.old.view.terms.workers }
         requires once { Lacks pass.old.view.split_off worker }
-        ensures table { (pass.new.table ≡ pass.old.table) × (result.table ≡ pass.old.table) }
+        ensures table { pass.new.table ≡ pass.old.table }
         ensures view { pass.new.view ≡ with_worker worker pass.old.view }
-        ensures split { result.view ≡ worker_view worker pass.old.view }
+        ensures split_table { result.table ≡ pass.old.table }
+        ensures split_view { result.view ≡ worker_view worker pass.old.view }
     {
         let seat = split_seat_for::<Brand>(&self.words, &mut pass.seat, worker as u64);
         Pass {
             number: worker,
             terms: pass.terms,
+            own: 0,
             seat,
         }
     }
 
     /// Puts all that the other pass has seen and done into this one.
     pub fn join(&self, into: &mut Pass, other: Pass)
-        requires table { (into.old.table ≡ self.now) × (other.table ≡ self.now) }
+        requires table { into.old.table ≡ self.now }
+        requires other { other.table ≡ self.now }
         ensures table { into.new.table ≡ into.old.table }
         ensures view { into.new.view ≡ joint_view into.old.view other.view }
     {
@@ -128,8 +144,7 @@ impl RoundTable {
         self.words.shared.load::<LoadBest>(&mut pass.seat, BEST)
     }
 
-    /// Lowers the best to `end`, in periods, where that is less, and gives the best before it, all
-    /// in one step.
+    /// Lowers the best to `end`, in periods, where that is less, and gives the best before it, all in one step.
     pub fn offer(&self, pass: &mut Pass, end: u64) -> u64
         requires { pass.old.table ≡ self.now }
         ensures table { pass.new.table ≡ pass.old.table }
@@ -161,6 +176,41 @@ impl RoundTable {
         }
     }
 
+    /// Raises the pass's own published count by one, and gives the count before, in one step.
+    ///
+    /// The pass is a worker's, and has published less than 4,294,967,295 times.
+    pub fn publish(&self, pass: &mut Pass) -> u64
+        requires table { pass.old.table ≡ self.now }
+        requires worker { 1 ≤ pass.old.view.number }
+        requires room { pass.old.view.own < 4294967295 }
+        ensures table { pass.new.table ≡ pass.old.table }
+        ensures view { pass.new.view ≡ with_publication pass.old.view }
+        ensures own { result ≡ pass.old.view.own }
+    {
+        let shared = &self.words.shared;
+        let place = count_place(pass.number);
+        let before = shared.fetch_add::<PublishOne>(&mut pass.seat, place, 1);
+        pass.own += 1;
+        before
+    }
+
+    /// The published count of a worker at this step: at least all that the pass had seen of it.
+    pub fn published(&self, pass: &mut Pass, worker: u32) -> u64
+        requires table { pass.old.table ≡ self.now }
+        requires low { 1 ≤ worker }
+        requires high { worker ≤ pass.old.view.terms.workers }
+        ensures table { pass.new.table ≡ pass.old.table }
+        ensures view { pass.new.view ≡ with_count worker result pass.old.view }
+
+        ensures no_less { seen_of worker pass.old.view ≤ result }
+        ensures greatest { seen_of worker pass.new.view ≡ result }
+        ensures others { (other : ℕ) → other ≢ worker → seen_of other pass.new.view ≡ seen_of other pass.old.view }
+    {
+        let shared = &self.words.shared;
+        let place = count_place(worker);
+        shared.load::<LoadCount>(&mut pass.seat, place)
+    }
+
     /// Ends the round, once each pass that was split off has been joined into the pass of number 0.
     pub fn close_with(self, pass: Pass) -> RoundEnd
         requires table { pass.table ≡ self }
@@ -173,6 +223,9 @@ impl RoundTable {
         ensures tickets { result.tickets ≡ pass.view.won + pass.view.refused }
         ensures won { pass.view.won ≡ min result.tickets pass.view.terms.quota }
         ensures spent { 0 < pass.view.refused → pass.view.won ≡ pass.view.terms.quota }
+
+        // Of each worker no more was seen than it published.
+        ensures published { (worker : ℕ) → 1 ≤ worker → worker ≤ pass.view.terms.workers → seen_of worker pass.view ≤ made_by worker pass.view }
     {
         let RoundTable { words } = self;
         let closed = words.close_with(pass.into_seat());
@@ -183,21 +236,31 @@ impl RoundTable {
     }
 }
 
-// The caller picks the worker for the proof.
+/// The place of a worker's published count among the words.
+fn count_place(worker: u32) -> usize
+    ensures { result ≡ 1 + worker }
+{
+    1 + worker as usize
+}
+
+/// The seat of a worker's pass; the caller picks the worker for the proof.
 fn split_seat_for<N: NextWorker>(
     words: &Words,
     seat: &mut Seat<(), PassView>,
     worker: u64,
 ) -> Seat<(), PassView>
     requires table { seat.old.table_id ≡ words.now.shared.table_id }
-    requires words { words.now.shared.table_id.words ≡ 2 }
-    requires first { (0 < seat.old.me.0.passes) × (seat.old.me.0.number ≡ 0) }
+    requires words { 0 < words.now.shared.table_id.words }
+    requires live { IsLive seat.old.me.0 }
+    requires first { seat.old.me.0.number ≡ 0 }
     requires picked { worker ≡ N.worker }
-    requires worker { (0 < worker) × (worker ≤ seat.old.me.0.terms.workers) }
+    requires low { 1 ≤ worker }
+    requires high { worker ≤ seat.old.me.0.terms.workers }
     requires once { Lacks seat.old.me.0.split_off worker }
-    ensures table { (seat.new.table_id ≡ seat.old.table_id) × (result.table_id ≡ seat.old.table_id) }
+    ensures table { seat.new.table_id ≡ seat.old.table_id }
     ensures view { seat.new.me ≡ (with_worker worker seat.old.me.0, seat.old.me.1) }
-    ensures split { result.me ≡ (worker_view worker seat.old.me.0, []) }
+    ensures split_table { result.table_id ≡ seat.old.table_id }
+    ensures split_view { result.me ≡ (worker_view worker seat.old.me.0, []) }
 {
     words.shared.split_seat::<SplitWorker<N>>(seat)
 }

@@ -19,6 +19,11 @@ fn a_round_on_one_thread(rt: HostRuntime) -> Result<(), Fail> {
     assert_eq!(rt; table.draw(&mut two), Draw::Ticket);
     assert_eq!(rt; table.draw(&mut one), Draw::Spent(2));
 
+    assert_eq!(rt; table.publish(&mut one), 0);
+    assert_eq!(rt; table.publish(&mut one), 1);
+    assert_eq!(rt; table.published(&mut two, 1), 2);
+    assert_eq!(rt; (first.own(), one.own(), two.own()), (0, 2, 0));
+
     table.join(&mut first, one);
     table.join(&mut first, two);
     assert_eq!(rt;
@@ -31,53 +36,42 @@ fn a_round_on_one_thread(rt: HostRuntime) -> Result<(), Fail> {
     Ok(())
 }
 
-// How often a worker of the next test offers and draws, and its quota.
+/// How often a worker of the next test draws at most, and the quota of all.
 const TURNS: u64 = 700;
 
 const QUOTA: u64 = 1000;
 
-// What a worker counted: its tickets, and its draws that were refused.
-#[derive(Clone, Copy)]
-struct Tally {
-    won: u64,
-    refused: u64,
-}
-
-// Offers lower and lower ends down to `least`, and draws after each, until a draw is refused.
-fn work(table: &RoundTable, pass: &mut Pass, least: u64) -> Tally
+/// Offers an end, and draws until a draw is refused. Says how many tickets it won.
+fn work(table: &RoundTable, pass: &mut Pass, end: u64) -> u64
     requires table { pass.old.table ≡ table.now }
     requires unrefused { pass.old.view.refused ≡ 0 }
     ensures table { pass.new.table ≡ pass.old.table }
     ensures passes { pass.new.view.passes ≡ pass.old.view.passes }
 {
-    for turn in 0..TURNS {
-        table.offer(pass, least.saturating_add(TURNS - turn));
-        if let Draw::Spent(_) = table.draw(pass) {
-            table.offer(pass, least);
-            return Tally {
-                won: turn,
-                refused: 1,
-            };
+    table.offer(pass, end);
+    for won in 0..TURNS {
+        if table.draw(pass) != Draw::Ticket {
+            return won;
         }
     }
-    table.offer(pass, least);
-    Tally {
-        won: TURNS,
-        refused: 0,
-    }
+    TURNS
 }
 
-// Two workers, each in a thread of its own.
+/// Two workers, each in a thread of its own.
 fn work_both<R: Threads + Sync>(
     rt: &R,
     table: &RoundTable,
     one: &mut Pass,
     two: &mut Pass,
-) -> (Tally, Tally)
-    requires one { (one.old.table ≡ table.now) × (one.old.view.refused ≡ 0) }
-    requires two { (two.old.table ≡ table.now) × (two.old.view.refused ≡ 0) }
-    ensures tables { (one.new.table ≡ one.old.table) × (two.new.table ≡ two.old.table) }
-    ensures passes { (one.new.view.passes ≡ one.old.view.passes) × (two.new.view.passes ≡ two.old.view.passes) }
+) -> (u64, u64)
+    requires one { one.old.table ≡ table.now }
+    requires one_unrefused { one.old.view.refused ≡ 0 }
+    requires two { two.old.table ≡ table.now }
+    requires two_unrefused { two.old.view.refused ≡ 0 }
+    ensures one { one.new.table ≡ one.old.table }
+    ensures one_passes { one.new.view.passes ≡ one.old.view.passes }
+    ensures two { two.new.table ≡ two.old.table }
+    ensures two_passes { two.new.view.passes ≡ two.old.view.passes }
 {
     join_mut(
         rt,
@@ -91,26 +85,20 @@ fn two_threads_offer_and_draw(rt: HostRuntime) -> Result<(), Fail> {
     let (table, mut first) = RoundTable::new(rt.alloc(), 5000, QUOTA, 2)?;
     let mut one = table.split(&mut first, 1);
     let mut two = table.split(&mut first, 2);
-    let (a, b) = work_both(&rt, &table, &mut one, &mut two);
+    let won = work_both(&rt, &table, &mut one, &mut two);
     table.join(&mut first, one);
     table.join(&mut first, two);
-    let end = table.close_with(first);
-    assert_eq!(rt; end.best, 40);
-    assert_eq!(rt; a.won.saturating_add(b.won), QUOTA);
-    assert_eq!(rt;
-        a.refused.saturating_add(b.refused).saturating_add(QUOTA),
-        end.tickets
-    );
+    assert_eq!(rt; won.0.saturating_add(won.1), QUOTA);
+    assert_eq!(rt; table.close_with(first).best, 40);
     Ok(())
 }
 
-// That threads may share the value.
+/// That threads may share the value.
 fn is_shared<T: Sync>(_value: &T) {}
 
-// That the value may go to another thread.
+/// That the value may go to another thread.
 fn is_sent<T: Send>(_value: &T) {}
 
-// A table is shared, and a pass goes to its worker.
 #[test]
 fn table_and_pass_cross_threads(rt: HostRuntime) -> Result<(), Fail> {
     let (table, pass) = RoundTable::new(rt.alloc(), 9, 2, 2)?;

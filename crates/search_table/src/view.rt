@@ -1,4 +1,3 @@
-// What a round begins with, and what a pass has seen and done.
 use std::collections::LinkedList;
 
 /// What a round begins with.
@@ -10,6 +9,14 @@ pub struct RoundTerms {
     pub quota: u64,
     /// The greatest number of a worker, 1 to 32.
     pub workers: u64,
+}
+
+/// How often a worker has published. No value of it is ever made: contracts speak of it.
+pub struct WorkerCount {
+    /// The number of the worker; 0 is that of the pass that comes with the table, which publishes nothing.
+    pub worker: u64,
+    /// How often it has published.
+    pub count: u64,
 }
 
 /// What a pass has seen and done. No value of it is ever made: contracts speak of it.
@@ -26,6 +33,12 @@ pub struct PassView {
     pub won: u64,
     /// How many tickets it was refused.
     pub refused: u64,
+    /// Its own published count: how often it has published.
+    pub own: u64,
+    /// The published counts of the passes that were joined into it.
+    pub joined_counts: LinkedList<WorkerCount>,
+    /// The published counts that it has loaded, the latest first, and those that passes joined into it had.
+    pub seen_counts: LinkedList<WorkerCount>,
     /// How many passes it stands for: itself, and those that were joined into it. A pass that was
     /// joined into another stands for none.
     pub passes: u64,

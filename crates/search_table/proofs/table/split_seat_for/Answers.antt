@@ -1,7 +1,7 @@
 use Rattle.std.proofs.Common.{rules, ℕ, subst}
 use Rattle.atomic_table.specs.Table.{Splits}
 use Rattle.search_table.specs.Views.{with_worker, worker_view}
-use Rattle.search_table.specs.Rule.{HoldsBetweenSteps}
+use Rattle.search_table.specs.BetweenSteps.{HoldsBetweenSteps}
 use Rattle.search_table.proofs.Steps.{splits}
 use Rattle.search_table.proofs.table.split_seat_for.Goals as goal
 
@@ -11,5 +11,5 @@ split_seat-requires g c =
       search rules,
       search rules,
       subst (λ (w : ℕ). Splits (HoldsBetweenSteps k) id v (with_worker w v) (worker_view w v)) c.requires.picked
-          (splits k id c.args.worker v c.requires.first.0 c.requires.first.1 c.requires.worker.0 c.requires.worker.1 c.requires.once),
+          (splits k id c.args.worker v c.requires.live c.requires.first c.requires.low c.requires.high c.requires.once),
     )

@@ -1,8 +1,8 @@
 use Rattle.std.proofs.Common.{◌≡◌}
 use Rattle.search_table.proofs.tests.work.Given as goal
 
-abbrev pub invariant-loop-turn : goal.invariant-loop-turn
-invariant-loop-turn l = record {
+abbrev pub invariant-loop-won : goal.invariant-loop-won
+invariant-loop-won l = record {
   table : l.pass.table ≡ l.initial.pass.table;
   passes : l.pass.view.passes ≡ l.initial.pass.view.passes;
   unrefused : l.pass.view.refused ≡ 0;

@@ -2,7 +2,7 @@ use Rattle.std.proofs.Common.{◌≡◌, ℕ, List, get_or, sym, ap, ◌∙◌, 
 use Rattle.std.specs.Slots.{slots_items}
 use Rattle.atomic_table.specs.Table.{Final, Seen}
 use Rattle.search_table.specs.declared.view.PassView.{PassView}
-use Rattle.search_table.specs.Rule.{HoldsBetweenSteps}
+use Rattle.search_table.specs.BetweenSteps.{HoldsBetweenSteps}
 use Rattle.search_table.specs.Steps.{Mine}
 use Rattle.search_table.proofs.Ends.{Ending, ends, word_is}
 use Rattle.search_table.proofs.table.RoundTable.close_with.Goals as goal
@@ -31,3 +31,6 @@ returns-clause-won c = let e = word_is (words c) 1 _ c.word-tickets.ensures in l
 
 pub returns-clause-spent : goal.returns-clause-spent
 returns-clause-spent c = λ refused. let t = (ending c).tickets in let w = (ending c).won in omega arith
+
+pub returns-clause-published : goal.returns-clause-published
+returns-clause-published c = (ending c).published

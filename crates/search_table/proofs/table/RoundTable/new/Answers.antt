@@ -1,5 +1,8 @@
+use Rattle.std.proofs.Common.{◌+◌, ◌≤◌, arith}
 use Rattle.search_table.proofs.Ends.{opens}
 use Rattle.search_table.proofs.table.RoundTable.new.Goals as goal
 
 pub of_words-requires : goal.of_words-requires
-of_words-requires c = opens _ c.requires.quota c.requires.workers.1
+of_words-requires c =
+    let high = c.requires.high in let wide : 1 + c.args.workers ≤ 33 = omega arith in
+    opens (record { start = c.args.best; quota = c.args.quota; workers = c.args.workers }) 33 c.requires.quota high wide
