@@ -33,5 +33,5 @@ start-le-end P j [] i d h = absurd (omega arith)
 start-le-end P j (p ∷ ps) zero d h = omega arith
 start-le-end P j (p ∷ ps) (suc i) d h = let later = start-le-end P (j + 1) ps i d (omega arith) in omega arith
 
-pub starts_early : (P : Project) (s : List Placing) (i : ℕ) (d : Placing) → end_of P (entries s) ≤ 1280000 → i < length s → (get_or s i d).start ≤ 999999999
+pub starts_early : (P : Project) (s : List Placing) (i : ℕ) (d : Placing) → end_of P (entries s) ≤ 1290000 → i < length s → (get_or s i d).start ≤ 999999999
 starts_early P s i d early h = let le = start-le-end P 1 s i d h in omega arith

@@ -1,5 +1,5 @@
 -- What a run has to tell: the answer to its words, with its text and its status.
-use Rattle.std.specs.Prelude.{◌≡◌, ℕ, List, [], ◌∷◌, ◌++◌, codes, decimal, Option, Some, None, IfSome}
+use Rattle.std.specs.Prelude.{◌≡◌, ℕ, List, [], ◌∷◌, ◌++◌, codes, decimal, Option, Some, None}
 use Rattle.sched_base.specs.Outside.{text_under}
 use Rattle.rcpsp_model.specs.declared.parts.Verdict.{Verdict}
 use Rattle.rcpsp_model.specs.declared.parts.Verdict.TheVariants.{Optimal, Infeasible, Limit}
@@ -36,6 +36,7 @@ code_of faults.SuccessorOutOfRange = 10
 code_of faults.Cycle = 11
 code_of faults.TextEnds = 12
 code_of faults.WordsLeft = 13
+code_of faults.CalendarOrder = 15
 
 -- the status of a verdict
 abbrev pub status_of_verdict : Verdict → Status
@@ -86,11 +87,16 @@ abbrev pub IsSolutionOf : List ℕ → Solution → Type 0
 IsSolutionOf bytes (solutions.Solved report) = (P : Project) × Reads bytes P × IsReportOn P report
 IsSolutionOf bytes (solutions.BadProject refusal) = IsFirstRefusal bytes refusal
 
--- the answer to the words, where the shelf may tell its texts: the place of the word that can't stand; or, where they
--- are a command, the solution of the text under the project's name
+-- the solution of the text under a name; where the shelf doesn't tell its texts, of some text
+abbrev pub IsSolutionUnder : Option (List (List ℕ × List ℕ)) → List ℕ → Solution → Type 0
+IsSolutionUnder None name solution = (bytes : List ℕ) × IsSolutionOf bytes solution
+IsSolutionUnder (Some texts) name solution = IsSolutionOf (text_under texts name) solution
+
+-- the answer to the words: the place of the word that can't stand; or, where they are a command, the solution of the text
+-- under the project's name
 abbrev pub IsAnswerTo : List (List ℕ) → Option (List (List ℕ × List ℕ)) → Answer → Type 0
 IsAnswerTo words texts (answers.BadWords bad) = bad_word words ≡ Some bad.place
-IsAnswerTo words texts (answers.Solution solution) = (bad_word words ≡ None) × IfSome texts (λ ts. IsSolutionOf (text_under ts (project_name words)) solution)
+IsAnswerTo words texts (answers.Solution solution) = (bad_word words ≡ None) × IsSolutionUnder texts (project_name words) solution
 
 -- the statuses at which an answer was told whole
 abbrev pub IsTold : Status → Type 0

@@ -5,16 +5,16 @@ use Rattle.schedule_cli.specs.declared.status.Status.{Status}
 use Rattle.schedule_cli.specs.declared.status.Status.TheVariants.{Done, Infeasible, Limit, ReportRefused, BadWords, BadProject, ReadFault, WriteFault, NoMemory}
 
 -- the number that the program ends with
-abbrev pub number_of : Status → ℕ
-number_of Done = 0
-number_of Infeasible = 1
-number_of Limit = 2
-number_of ReportRefused = 3
-number_of BadWords = 4
-number_of BadProject = 5
-number_of ReadFault = 6
-number_of WriteFault = 7
-number_of NoMemory = 8
+abbrev pub status_number : Status → ℕ
+status_number Done = 0
+status_number Infeasible = 1
+status_number Limit = 2
+status_number ReportRefused = 3
+status_number BadWords = 4
+status_number BadProject = 5
+status_number ReadFault = 6
+status_number WriteFault = 7
+status_number NoMemory = 8
 
 -- the status of a verdict
 abbrev pub IsSolved : Status → Type 0

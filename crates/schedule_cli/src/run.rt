@@ -1,4 +1,4 @@
-ghost use Rattle.std.specs.Prelude.{◌≡◌, ◌⊎◌, ◌↔◌, Err, None, IsSome, IfOk, IfSome, [], map, string_bytes};
+ghost use Rattle.std.specs.Prelude.{◌≡◌, ◌≤◌, ◌⊎◌, ◌↔◌, Err, None, IsSome, IfOk, IfSome, [], map, string_bytes};
 ghost use Rattle.sched_base.specs.Outside.{Gains, GainsFront, Rose};
 ghost use Rattle.schedule_cli.specs.declared.answer.Answer.{Answer as Told};
 ghost use Rattle.schedule_cli.specs.declared.answer.Answer.TheVariants as answers;
@@ -56,6 +56,8 @@ fn answer_to<S: Shelf>(alloc: Global, words: &[String], shelf: &mut S) -> Result
     ensures answer { IfOk result (λ answer. IsAnswerTo (map string_bytes words.now) (S.texts shelf.old) answer) }
     ensures text { IfOk result IsTellable }
     ensures fault { result ≡ Err stops.ReadFault → (bad_word (map string_bytes words.now) ≡ None) × Rose (S.faults shelf.old) (S.faults shelf.new) }
+    ensures texts { S.texts shelf.new ≡ S.texts shelf.old }
+    ensures later { S.faults shelf.old ≤ S.faults shelf.new }
 {
     match parse_words(words) {
         Ok(command) => {
@@ -89,6 +91,11 @@ pub fn run<R: Threads + Sync, S: Shelf, K: Sink, G: Gate + Sync>(
     // A fault of the shelf, or want of memory, leaves nothing; the words of a faulty shelf are a command.
     ensures read_fault { result ≡ Status.ReadFault → (bad_word (map string_bytes words.now) ≡ None) × Rose (S.faults shelf.old) (S.faults shelf.new) }
     ensures silent { (result ≡ Status.ReadFault) ⊎ (result ≡ Status.NoMemory) → Gains (K.held out.old) (K.held out.new) [] }
+
+    // The shelf has its texts as before, and no count of faults falls.
+    ensures texts { S.texts shelf.new ≡ S.texts shelf.old }
+    ensures shelf_count { S.faults shelf.old ≤ S.faults shelf.new }
+    ensures sink_count { K.faults out.old ≤ K.faults out.new }
 
     // Unless the status is 7 or 8, it is 4 exactly where some word can't stand.
     ensures bad_words { (result ≡ Status.WriteFault → ⊥) → (result ≡ Status.NoMemory → ⊥) → (result ≡ Status.BadWords) ↔ IsSome (bad_word (map string_bytes words.now)) }

@@ -1,4 +1,4 @@
-ghost use Rattle.std.specs.Prelude.{◌≡◌, ◌++◌, [], codes, decimal, string_bytes, IfOk, OnOk, Err};
+ghost use Rattle.std.specs.Prelude.{◌≡◌, ◌≤◌, ◌++◌, [], codes, decimal, string_bytes, IfOk, OnOk, Err};
 ghost use Rattle.sched_base.specs.Outside.{Gains, GainsFront, Rose};
 ghost use Rattle.schedule_cli.specs.Answer.{code_of, line, text_of, IsTellable};
 ghost use Rattle.schedule_cli.specs.declared.tell.Untold.TheVariants.{NoMemory, WriteFault};
@@ -70,6 +70,7 @@ pub fn tell<K: Sink>(alloc: Global, out: &mut K, answer: &Answer) -> Result<(), 
     ensures front { result ≡ Err WriteFault → GainsFront (K.held out.old) (K.held out.new) (text_of answer.now) }
     ensures fault { result ≡ Err WriteFault → Rose (K.faults out.old) (K.faults out.new) }
     ensures silent { result ≡ Err NoMemory → Gains (K.held out.old) (K.held out.new) [] }
+    ensures later { K.faults out.old ≤ K.faults out.new }
 {
     match answer {
         Answer::Solution(Solution::Solved(report)) => write_report(out, report)?,

@@ -127,6 +127,29 @@ fn a_job_that_asks_too_much_makes_it_infeasible(rt: HostRuntime) {
 }
 
 #[test]
+fn a_job_waits_until_a_break_is_over(rt: HostRuntime) {
+    let want =
+        "psplib-report 1\nverdict limit\nduration 7\nlower 3\njob 1 1 0\njob 2 1 2\njob 3 1 5\njob 4 1 7\nlog no\nend\n";
+    let rows = Rows {
+        amounts: "R 1\n3\nCALENDAR:\nresource from to capacity\n1\n1 0 2 1\n",
+        ..A
+    };
+    check_solved(&rt, &rows, (Status::Limit, want));
+}
+
+#[test]
+fn a_job_starts_after_a_break_that_it_would_meet(rt: HostRuntime) {
+    let want = "psplib-report 1\nverdict limit\nduration 6\nlower 3\njob 1 1 3\nlog no\nend\n";
+    let rows = Rows {
+        counts: (1, 1, 0),
+        precedence: "1 1 0\n",
+        modes: "1 1 3 1\n",
+        amounts: "R 1\n1\nCALENDAR:\nresource from to capacity\n1\n1 2 3 0\n",
+    };
+    check_solved(&rt, &rows, (Status::Limit, want));
+}
+
+#[test]
 fn the_cheapest_modes_keep_the_budget(rt: HostRuntime) {
     let want =
         "psplib-report 1\nverdict limit\nduration 4\nlower 2\njob 1 1 0\njob 2 2 0\njob 3 2 0\njob 4 1 4\nlog no\nend\n";

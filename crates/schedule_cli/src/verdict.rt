@@ -13,7 +13,7 @@ use rcpsp_model::{Verdict, first_plan, job_tail};
 /// The verdict of a first plan, where the longest chain has this length.
 fn judged(p: &Project, plan: &Option<Schedule>, longest: u32) -> Verdict
     requires first { IsFirstPlan p.now plan.now }
-    requires early { IfSome plan.now (λ s. end_of p.now (entries s) ≤ 1280000) }
+    requires early { IfSome plan.now (λ s. end_of p.now (entries s) ≤ 1290000) }
     ensures { IsVerdictOf p.now longest plan.now result }
 {
     p.known();
@@ -41,7 +41,7 @@ fn judged(p: &Project, plan: &Option<Schedule>, longest: u32) -> Verdict
 /// The verdict of the first plan: optimal where it ends with the longest chain.
 pub fn verdict_of(p: &Project, plan: &Option<Schedule>) -> Verdict
     requires first { IsFirstPlan p.now plan.now }
-    requires early { IfSome plan.now (λ s. end_of p.now (entries s) ≤ 1280000) }
+    requires early { IfSome plan.now (λ s. end_of p.now (entries s) ≤ 1290000) }
     requires infeasible { IfNone plan.now (nonrenewables p.now ≡ 0 → NoneIsFeasible p.now) }
     ensures value { (h : ℕ) × IsLongestChain p.now h × IsVerdictOf p.now h plan.now result }
     ensures claim { Claim p.now result plan.now }

@@ -6,5 +6,5 @@ use Rattle.schedule_cli.proofs.verdict.judged.Goals as goal
 
 pub end-duration-requires-clause-starts : goal.end-duration-requires-clause-starts
 end-duration-requires-clause-starts c =
-    let early = subst (λ (plan : Option (List Placing)). IfSome plan (λ s. end_of c.args.p.now (entries s) ≤ 1280000)) c.in-Some.is c.requires.early in
+    let early = subst (λ (plan : Option (List Placing)). IfSome plan (λ s. end_of c.args.p.now (entries s) ≤ 1290000)) c.in-Some.is c.requires.early in
     λ k d h. starts_early c.args.p.now c.in-Some.plan k d early h
