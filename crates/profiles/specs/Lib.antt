@@ -1,2 +1,5 @@
+pub mod Steps
+pub mod Adding
 pub mod Placed
 pub mod Room
+pub mod Spare

@@ -1,9 +1,10 @@
 //! What placed jobs take of the renewable resources in each period, and where one more job fits beside them.
 #![tactic(auto)]
 
-mod beside;
-mod capacity;
+mod adding;
 mod profile;
+mod shortage;
+mod steps;
 #[cfg(test)]
 mod tests;
 

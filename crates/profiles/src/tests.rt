@@ -1,12 +1,15 @@
+ghost use Rattle.std.specs.Prelude.{◌≤◌, All};
+ghost use Rattle.std.specs.Bool.{OnTrue};
 ghost use Rattle.profiles.specs.Placed.{IsProfileOf};
 
-use crate::Profile;
+use crate::{Entry, Profile};
 use project_net::{Draft, DraftJob, Project};
 use rcpsp_model::Mode;
 use sched_base::List;
 use std::alloc::Global;
 use std::process::Abort;
 use std::test::Fail;
+use worked_projects::{AFTER_A_BREAK, LATE_BREAK, build};
 
 /// A project of jobs without an order, each with one mode: its duration, and its request of either resource.
 fn project_of(
@@ -72,6 +75,44 @@ fn copy_of(rt: &impl Abort, project: &Project, profile: &Profile) -> Profile
 {
     project.known();
     profile.try_copy(1).expect(rt, "memory")
+}
+
+/// Whether no entry starts after the period.
+fn start_by(entries: &[Entry], period: u32) -> bool
+    ensures { OnTrue result (All (λ e. e.start ≤ period) entries.now) }
+{
+    for entry in entries {
+        if period < entry.start {
+            return false;
+        }
+    }
+    true
+}
+
+/// Whether a job of one mode fits at a period that is no earlier than each start.
+fn fits_last(rt: &impl Abort, project: &Project, profile: &Profile, job: u8, at: u32) -> bool
+    requires { IsProfileOf project.now profile.now }
+{
+    assert!(rt; 1 <= job && job <= project.jobs());
+    let modes = project.modes(job);
+    assert!(rt; 1 <= modes);
+    let entries = profile.entries();
+    assert!(rt; start_by(entries, at));
+    profile.fits_from_last(project, job, 1, at)
+}
+
+/// Places all jobs, each at its earliest start, and gives the last of these starts.
+fn place_in_turn(rt: &impl Abort, project: &Project, profile: &mut Profile) -> u32
+    requires { IsProfileOf project.now profile.old }
+    ensures { IsProfileOf project.now profile.new }
+{
+    let mut last = 0;
+    for done in 0..project.jobs() {
+        let earliest = earliest_from(rt, project, profile, done + 1, 0);
+        last = earliest.expect(rt, "a start");
+        place_at(rt, project, profile, done + 1, last);
+    }
+    last
 }
 
 /// Durations and requests of eighteen jobs.
@@ -159,7 +200,7 @@ fn place_all(rt: &impl Abort, project: &Project, profile: &mut Profile)
 #[test]
 fn usage_of_a_plan(rt: HostRuntime) -> Result<(), Fail> {
     let project = project_of(rt.alloc(), &JOBS, [14, 10])?;
-    let mut profile = Profile::empty(rt.alloc());
+    let mut profile = Profile::empty(rt.alloc(), &project);
     place_all(&rt, &project, &mut profile);
     assert_eq!(rt; profile.entries().len(), 18);
     assert_eq!(rt; project.renewables(), 2);
@@ -189,7 +230,7 @@ fn starts_beside_a_full_period(rt: HostRuntime) -> Result<(), Fail> {
         (1, [3, 0]),
     ];
     let project = project_of(rt.alloc(), &jobs, [2, 0])?;
-    let mut profile = Profile::empty(rt.alloc());
+    let mut profile = Profile::empty(rt.alloc(), &project);
     place_at(&rt, &project, &mut profile, 1, 1);
     let cases = [
         (2, 0, Some(0)),
@@ -212,7 +253,7 @@ fn starts_beside_a_full_period(rt: HostRuntime) -> Result<(), Fail> {
 #[test]
 fn room_is_made_and_used(rt: HostRuntime) -> Result<(), Fail> {
     let project = project_of(rt.alloc(), &[(1, [1, 1]), (1, [1, 1])], [1, 1])?;
-    let mut profile = Profile::empty(rt.alloc());
+    let mut profile = Profile::empty(rt.alloc(), &project);
     assert_eq!(rt; profile.reserve(2), Ok(()));
     place_at(&rt, &project, &mut profile, 1, 0);
     assert_eq!(rt; profile.entries().len(), 1);
@@ -221,5 +262,46 @@ fn room_is_made_and_used(rt: HostRuntime) -> Result<(), Fail> {
     assert_eq!(rt; profile.entries().len(), 1);
     assert_eq!(rt; copy.entries().len(), 2);
     assert_eq!(rt; copy.entries()[0], profile.entries()[0]);
+    Ok(())
+}
+
+#[test]
+fn long_jobs_one_after_the_other(rt: HostRuntime) -> Result<(), Fail> {
+    let jobs = [(10_000, [1, 0]); 128];
+    let project = project_of(rt.alloc(), &jobs, [1, 0])?;
+    let mut profile = Profile::empty(rt.alloc(), &project);
+    profile.reserve(128)?;
+    assert_eq!(rt; place_in_turn(&rt, &project, &mut profile), 1_270_000);
+    assert_eq!(rt; profile.times(&project).len(), 129);
+    Ok(())
+}
+
+#[test]
+fn times_and_the_last_start(rt: HostRuntime) -> Result<(), Fail> {
+    let project = build(rt.alloc(), &AFTER_A_BREAK)?;
+    let mut profile = Profile::empty(rt.alloc(), &project);
+    let none: [u32; 0] = [];
+    assert_eq!(rt; profile.times(&project), none.as_slice());
+    for (at, fits) in [(0, false), (1, false), (2, true)] {
+        assert_eq!(rt; fits_last(&rt, &project, &profile, 2, at), fits, "at {at}");
+    }
+    place_at(&rt, &project, &mut profile, 1, 0);
+    place_at(&rt, &project, &mut profile, 2, 2);
+    assert_eq!(rt; profile.times(&project), [0, 2, 5].as_slice());
+    for (at, fits) in [(2, false), (4, false), (5, true)] {
+        assert_eq!(rt; fits_last(&rt, &project, &profile, 3, at), fits, "at {at}");
+    }
+    Ok(())
+}
+
+#[test]
+fn a_break_in_a_mode(rt: HostRuntime) -> Result<(), Fail> {
+    let project = build(rt.alloc(), &LATE_BREAK)?;
+    let profile = Profile::empty(rt.alloc(), &project);
+    for (at, fits) in [(0, false), (2, false), (3, true)] {
+        assert_eq!(rt; fits_last(&rt, &project, &profile, 1, at), fits, "at {at}");
+        let start = earliest_from(&rt, &project, &profile, 1, at);
+        assert_eq!(rt; start, Some(3), "from {at}");
+    }
     Ok(())
 }

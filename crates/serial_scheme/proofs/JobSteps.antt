@@ -5,7 +5,8 @@ use Rattle.std.proofs.lemmas.Bool.{cases_eq, cases_lt, cases_Bool}
 use Rattle.rcpsp_model.specs.Project.{Project, IsJob, IsAcyclic, job_count}
 use Rattle.rcpsp_model.specs.Chain.{IsTail}
 use Rattle.rcpsp_model.proofs.TailLemmas.{has_tail_law}
-use Rattle.serial_scheme.specs.Priority.{IsOpen, HasLessTail, HasNoMoreTail, IsMoreUrgent, IsMostUrgent}
+use Rattle.project_net.specs.Order.{IsFree}
+use Rattle.serial_scheme.specs.Priority.{HasLessTail, HasNoMoreTail, IsMoreUrgent, IsMostUrgent}
 
 -- a job has one tail
 tail-one : (P : Project) (j a b : ℕ) → IsTail P j a → IsTail P j b → a ≡ b
@@ -25,21 +26,21 @@ more_urgent-takes P best b j x y is p q lt = subst (λ (o : Option ℕ). IsMoreU
 
 -- of the open jobs below n, the first of greatest tail
 abbrev pub UrgentBelow : Project → (ℕ → Bool) → ℕ → Option ℕ → Type 0
-UrgentBelow P placed n None = (i : ℕ) → i < n → IsOpen P placed i → ⊥
+UrgentBelow P placed n None = (i : ℕ) → i < n → IsFree P placed i → ⊥
 UrgentBelow P placed n (Some j) =
-    (j < n) × IsOpen P placed j × ((i a b : ℕ) → i < n → IsOpen P placed i → IsTail P i a → IsTail P j b → (a < b) ⊎ ((a ≡ b) × (j ≤ i)))
+    (j < n) × IsFree P placed j × ((i a b : ℕ) → i < n → IsFree P placed i → IsTail P i a → IsTail P j b → (a < b) ⊎ ((a ≡ b) × (j ≤ i)))
 
 pub urgent_is_job : (P : Project) (placed : ℕ → Bool) (n : ℕ) (best : Option ℕ) → UrgentBelow P placed n best → IfSome best (IsJob P)
 urgent_is_job P placed n None u = tt
 urgent_is_job P placed n (Some j) u = u.1.job
 
 -- a job that isn't open changes nothing
-pub urgent-skip : (P : Project) (placed : ℕ → Bool) (n : ℕ) (best : Option ℕ) → (IsOpen P placed n → ⊥) → UrgentBelow P placed n best → UrgentBelow P placed (n + 1) best
-urgent-skip P placed n None no_ u = λ i l o. elim (cases_eq i n) [ inl e ↦ no_ (subst (IsOpen P placed) e o) | inr ne ↦ u i (omega arith) o ]
+pub urgent-skip : (P : Project) (placed : ℕ → Bool) (n : ℕ) (best : Option ℕ) → (IsFree P placed n → ⊥) → UrgentBelow P placed n best → UrgentBelow P placed (n + 1) best
+urgent-skip P placed n None no_ u = λ i l o. elim (cases_eq i n) [ inl e ↦ no_ (subst (IsFree P placed) e o) | inr ne ↦ u i (omega arith) o ]
 urgent-skip P placed n (Some j) no_ u =
-    (let l = u.0 in omega arith, u.1, λ i a b l o. elim (cases_eq i n) [ inl e ↦ absurd (no_ (subst (IsOpen P placed) e o)) | inr ne ↦ u.2 i a b (omega arith) o ])
+    (let l = u.0 in omega arith, u.1, λ i a b l o. elim (cases_eq i n) [ inl e ↦ absurd (no_ (subst (IsFree P placed) e o)) | inr ne ↦ u.2 i a b (omega arith) o ])
 
-pub urgent-more : (P : Project) → IsAcyclic P → (placed : ℕ → Bool) (n : ℕ) (best new : Option ℕ) → IsOpen P placed n → IsMoreUrgent P best n new → UrgentBelow P placed n best →
+pub urgent-more : (P : Project) → IsAcyclic P → (placed : ℕ → Bool) (n : ℕ) (best new : Option ℕ) → IsFree P placed n → IsMoreUrgent P best n new → UrgentBelow P placed n best →
     UrgentBelow P placed (n + 1) new
 urgent-more P acyclic placed n None new is_open l u =
     subst (UrgentBelow P placed (n + 1)) (sym l) (
@@ -74,20 +75,20 @@ urgent-more P acyclic placed n (Some j) new is_open (inr l) u =
 
 pub most_urgent-from : (P : Project) (placed : ℕ → Bool) (n : ℕ) (best : Option ℕ) → job_count P < n → UrgentBelow P placed n best → IfSome best (IsMostUrgent P placed)
 most_urgent-from P placed n None past u = tt
-most_urgent-from P placed n (Some j) past u = record { open_job = u.1; first = λ i a b o ta tb. u.2 i a b (let high = o.job.1 in omega arith) o ta tb }
+most_urgent-from P placed n (Some j) past u = record { free = u.1; first = λ i a b o ta tb. u.2 i a b (let high = o.job.1 in omega arith) o ta tb }
 
-pub none_open-from : (P : Project) (placed : ℕ → Bool) (n : ℕ) (best : Option ℕ) → job_count P < n → UrgentBelow P placed n best → IfNone best ((j : ℕ) → IsOpen P placed j → ⊥)
+pub none_open-from : (P : Project) (placed : ℕ → Bool) (n : ℕ) (best : Option ℕ) → job_count P < n → UrgentBelow P placed n best → IfNone best ((j : ℕ) → IsFree P placed j → ⊥)
 none_open-from P placed n None past u = λ j o. u j (let high = o.job.1 in omega arith) o
 none_open-from P placed n (Some j) past u = tt
 
 -- where no job is open, all are placed
-all-below : (P : Project) (a : IsAcyclic P) (placed : ℕ → Bool) → ((j : ℕ) → IsOpen P placed j → ⊥) → (r j : ℕ) → IsJob P j → a.rank j < r → placed j ≡ true
+all-below : (P : Project) (a : IsAcyclic P) (placed : ℕ → Bool) → ((j : ℕ) → IsFree P placed j → ⊥) → (r j : ℕ) → IsJob P j → a.rank j < r → placed j ≡ true
 all-below P a placed none zero j job h = absurd (omega arith)
 all-below P a placed none (suc r) j job h =
     elim (cases_Bool (placed j)) [
       | inl y ↦ y
-      | inr n ↦ absurd (none j (record { job = job; unplaced = n; preds = λ i b. all-below P a placed none r i (a.jobs i j b).0 (let up = a.rises i j b in omega arith) }))
+      | inr n ↦ absurd (none j (record { job = job; untaken = n; predecessors = λ i b. all-below P a placed none r i (a.jobs i j b).0 (let up = a.rises i j b in omega arith) }))
     ]
 
-pub all-placed : (P : Project) (a : IsAcyclic P) (placed : ℕ → Bool) → ((j : ℕ) → IsOpen P placed j → ⊥) → (j : ℕ) → IsJob P j → placed j ≡ true
+pub all-placed : (P : Project) (a : IsAcyclic P) (placed : ℕ → Bool) → ((j : ℕ) → IsFree P placed j → ⊥) → (j : ℕ) → IsJob P j → placed j ≡ true
 all-placed P a placed none j job = all-below P a placed none (a.rank j + 1) j job (omega arith)

@@ -24,9 +24,9 @@ use Rattle.rcpsp_model.proofs.TreeLemmas.{in_turn-push}
 use Rattle.rcpsp_model.proofs.PlanLemmas.{IsPlan}
 use Rattle.project_net.specs.Placings.{HaveJobsOnce}
 use Rattle.project_net.proofs.PlaceSteps.{in_turn-weaker}
-use Rattle.profiles.specs.Placed.{Placed, IsProfileOf}
 use Rattle.profiles.specs.Room.{FitsFrom}
-use Rattle.serial_scheme.specs.Priority.{IsOpen, IsMostUrgent, done_at}
+use Rattle.project_net.specs.Order.{IsFree}
+use Rattle.serial_scheme.specs.Priority.{IsMostUrgent, done_at}
 use Rattle.serial_scheme.proofs.JobSteps.{all-placed}
 
 pub as-placed : (P : Project) (Rule : ModeRule) (F : List Entry) (e : Entry) → IsScheduledNext P Rule F e → IsPlacedInTurn P F e
@@ -136,30 +136,24 @@ scheduled-of P p Rule F t =
       start = let h = finish-le-end P F e i in let k = scheduled-end P p Rule F t in omega arith;
     })
 
-pub scheduled-profile : (P : Project) → IsProject P → (Rule : ModeRule) (held : Placed) → InTurn (IsScheduledNext P Rule) [] held.entries → IsProfileOf P held
-scheduled-profile P p Rule held t = record {
-  entries = scheduled-of P p Rule held.entries t;
-  capacities = (scheduled-placing P p.acyclic Rule held.entries t).plan.keeps;
-}
-
 -- The next job by the set of those that are placed.
 
 pub record HasPlaced (P : Project) (placed : JobSet) (F : List Entry) : Type 0 where
   pub same : (i : ℕ) → 1 ≤ i → member placed i ≡ has_job F i
 
-open-from_eligible : (P : Project) (placed : JobSet) (F : List Entry) (j : ℕ) → HasPlaced P placed F → IsEligible P F j → IsOpen P (member placed) j
+open-from_eligible : (P : Project) (placed : JobSet) (F : List Entry) (j : ℕ) → HasPlaced P placed F → IsEligible P F j → IsFree P (member placed) j
 open-from_eligible P placed F j h e = record {
   job = e.job;
-  unplaced = h.same j e.job.0 ∙ e.unplaced;
-  preds = λ i b. h.same i (before-job P i j b).0 ∙ e.preds i b;
+  untaken = h.same j e.job.0 ∙ e.unplaced;
+  predecessors = λ i b. h.same i (before-job P i j b).0 ∙ e.preds i b;
 }
 
 pub urgent-from_most : (P : Project) (placed : JobSet) (F : List Entry) (j : ℕ) → HasPlaced P placed F → IsMostUrgent P (member placed) j → IsUrgent P F j
 urgent-from_most P placed F j h u = record {
   eligible = record {
-    job = u.open_job.job;
-    unplaced = sym (h.same j u.open_job.job.0) ∙ u.open_job.unplaced;
-    preds = λ i b. sym (h.same i (before-job P i j b).0) ∙ u.open_job.preds i b;
+    job = u.free.job;
+    unplaced = sym (h.same j u.free.job.0) ∙ u.free.untaken;
+    preds = λ i b. sym (h.same i (before-job P i j b).0) ∙ u.free.predecessors i b;
   };
   first = λ i a b el ta tb. u.first i a b (open-from_eligible P placed F i h el) ta tb;
 }
@@ -228,7 +222,7 @@ start-limit P p Rule F j m t turn can least =
 pub length-open : (P : Project) → IsAcyclic P → (Rule : ModeRule) (placed : JobSet) (F : List Entry) (j : ℕ) → SoFar P Rule placed F → IsMostUrgent P (member placed) j → length F < job_count P
 length-open P a Rule placed F j s u = length-eligible P F j (scheduled-placing P a Rule F s.turn) (urgent-from_most P placed F j s.set u).eligible
 
-pub serial-from : (P : Project) → IsAcyclic P → (Rule : ModeRule) (placed : JobSet) (F : List Entry) → SoFar P Rule placed F → ((j : ℕ) → IsOpen P (member placed) j → ⊥) → IsSerialPlan P Rule F
+pub serial-from : (P : Project) → IsAcyclic P → (Rule : ModeRule) (placed : JobSet) (F : List Entry) → SoFar P Rule placed F → ((j : ℕ) → IsFree P (member placed) j → ⊥) → IsSerialPlan P Rule F
 serial-from P a Rule placed F s none = record {
   in_turn = s.turn;
   whole = λ j job. sym (s.set.same j job.0) ∙ all-placed P a (member placed) none j job;

@@ -4,12 +4,7 @@ use Rattle.rcpsp_model.specs.declared.parts.Entry.{Entry}
 use Rattle.rcpsp_model.specs.Project.{Project, Before, IsJob, is_before}
 use Rattle.rcpsp_model.specs.Schedule.{end_of}
 use Rattle.rcpsp_model.specs.Chain.{IsTail}
-
--- the job isn't placed, and each of its predecessors is
-pub record IsOpen (P : Project) (placed : ℕ → Bool) (j : ℕ) : Type 0 where
-  pub job : IsJob P j
-  pub unplaced : placed j ≡ false
-  pub preds : (i : ℕ) → Before P i j → placed i ≡ true
+use Rattle.project_net.specs.Order.{IsFree}
 
 -- the tail of i is less than that of j, or at most that
 abbrev pub HasLessTail : Project → ℕ → ℕ → Type 0
@@ -23,10 +18,10 @@ abbrev pub IsMoreUrgent : Project → Option ℕ → ℕ → Option ℕ → Type
 IsMoreUrgent P None j r = r ≡ Some j
 IsMoreUrgent P (Some b) j r = (HasNoMoreTail P j b × (r ≡ Some b)) ⊎ (HasLessTail P b j × (r ≡ Some j))
 
--- the open job of greatest tail, the lowest on a tie
+-- the free job of greatest tail, the lowest on a tie
 pub record IsMostUrgent (P : Project) (placed : ℕ → Bool) (j : ℕ) : Type 0 where
-  pub open_job : IsOpen P placed j
-  pub first : (i a b : ℕ) → IsOpen P placed i → IsTail P i a → IsTail P j b → (a < b) ⊎ ((a ≡ b) × (j ≤ i))
+  pub free : IsFree P placed j
+  pub first : (i a b : ℕ) → IsFree P placed i → IsTail P i a → IsTail P j b → (a < b) ⊎ ((a ≡ b) × (j ≤ i))
 
 -- the greatest finish of the job's predecessors
 abbrev pub done_at : Project → List Entry → ℕ → ℕ

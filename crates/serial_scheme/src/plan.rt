@@ -13,37 +13,37 @@ use sched_base::NoMemory;
 use std::alloc::Global;
 
 /// The plan by the rule, or `None` where a job has no executable mode or the jobs need more than a budget.
-fn plan_by(alloc: Global, p: &Project, rule: ModeRule) -> Result<Option<Schedule>, NoMemory>
-    ensures plan { IfOk result (λ plan. MatchOption plan (HasNoPlanBy p.now (HasMode rule)) (IsPlanBy p.now (HasMode rule))) }
-    ensures infeasible { IfOk result (λ plan. IfNone plan (nonrenewables p.now ≡ 0 → NoneIsFeasible p.now)) }
+fn plan_by(alloc: Global, project: &Project, rule: ModeRule) -> Result<Option<Schedule>, NoMemory>
+    ensures plan { IfOk result (λ plan. MatchOption plan (HasNoPlanBy project.now (HasMode rule)) (IsPlanBy project.now (HasMode rule))) }
+    ensures infeasible { IfOk result (λ plan. IfNone plan (nonrenewables project.now ≡ 0 → NoneIsFeasible project.now)) }
 {
-    p.known();
-    let Some(placed) = serial_plan(alloc, p, rule)? else {
+    project.known();
+    let Some(placed) = serial_plan(alloc, project, rule)? else {
         return Ok(None);
     };
     let entries = placed.entries();
-    if !keeps_budgets(p, entries) {
+    if !keeps_budgets(project, entries) {
         return Ok(None);
     }
-    let schedule = Schedule::of_entries(alloc, p.jobs(), entries)?;
+    let schedule = Schedule::of_entries(alloc, project.jobs(), entries)?;
     Ok(Some(schedule))
 }
 
 /// The plan that ends earlier, the first where both end at once.
-fn earlier(p: &Project, first: Option<Schedule>, second: Option<Schedule>) -> Option<Schedule>
-    requires first { MatchOption first (HasNoPlanBy p.now IsShortestMode) (IsPlanBy p.now IsShortestMode) }
-    requires second { MatchOption second (HasNoPlanBy p.now IsCheapestMode) (IsPlanBy p.now IsCheapestMode) }
-    ensures { IsFirstPlan p.now result }
+fn earlier(project: &Project, first: Option<Schedule>, second: Option<Schedule>) -> Option<Schedule>
+    requires first { MatchOption first (HasNoPlanBy project.now IsShortestMode) (IsPlanBy project.now IsShortestMode) }
+    requires second { MatchOption second (HasNoPlanBy project.now IsCheapestMode) (IsPlanBy project.now IsCheapestMode) }
+    ensures { IsFirstPlan project.now result }
 {
-    p.known();
+    project.known();
     let Some(first) = first else {
         return second;
     };
     let Some(second) = second else {
         return Some(first);
     };
-    let first_end = p.end(&first);
-    let second_end = p.end(&second);
+    let first_end = project.end(&first);
+    let second_end = project.end(&second);
     if second_end < first_end {
         Some(second)
     } else {
@@ -55,16 +55,16 @@ fn earlier(p: &Project, first: Option<Schedule>, second: Option<Schedule>) -> Op
 /// the shortest modes on a tie; none where neither rule gives one.
 ///
 /// A rule gives a plan where each job has an executable mode and the budgets are kept.
-pub fn first_plan(alloc: Global, p: &Project) -> Result<Option<Schedule>, NoMemory>
-    ensures first { IfOk result (IsFirstPlan p.now) }
-    ensures feasible { IfOk result (λ plan. IfSome plan (IsFeasible p.now)) }
-    ensures end { IfOk result (λ plan. IfSome plan (λ s. end_of p.now (entries s) ≤ 1290000)) }
+pub fn first_plan(alloc: Global, project: &Project) -> Result<Option<Schedule>, NoMemory>
+    ensures first { IfOk result (IsFirstPlan project.now) }
+    ensures feasible { IfOk result (λ plan. IfSome plan (IsFeasible project.now)) }
+    ensures end { IfOk result (λ plan. IfSome plan (λ s. end_of project.now (entries s) ≤ 1290000)) }
 
     // Without a nonrenewable resource only a job that has no executable mode keeps the rules from a plan.
-    ensures infeasible { IfOk result (λ plan. IfNone plan (nonrenewables p.now ≡ 0 → NoneIsFeasible p.now)) }
+    ensures infeasible { IfOk result (λ plan. IfNone plan (nonrenewables project.now ≡ 0 → NoneIsFeasible project.now)) }
 {
-    p.known();
-    let shortest = plan_by(alloc, p, ModeRule::Shortest)?;
-    let cheapest = plan_by(alloc, p, ModeRule::Cheapest)?;
-    Ok(earlier(p, shortest, cheapest))
+    project.known();
+    let shortest = plan_by(alloc, project, ModeRule::Shortest)?;
+    let cheapest = plan_by(alloc, project, ModeRule::Cheapest)?;
+    Ok(earlier(project, shortest, cheapest))
 }

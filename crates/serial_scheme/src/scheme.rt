@@ -10,20 +10,24 @@ use sched_base::{Job, JobSet, NoMemory};
 use std::alloc::Global;
 
 /// All jobs as the serial scheme places them with the modes of the rule, or `None` where a job has no executable mode.
-pub fn serial_plan(alloc: Global, p: &Project, rule: ModeRule) -> Result<Option<Profile>, NoMemory>
-    ensures { IfOk result (λ plan. MatchOption plan (SomeHasNoMode p.now) (λ held. IsSerialPlan p.now (HasMode rule) held.entries)) }
+pub fn serial_plan(
+    alloc: Global,
+    project: &Project,
+    rule: ModeRule,
+) -> Result<Option<Profile>, NoMemory>
+    ensures { IfOk result (λ plan. MatchOption plan (SomeHasNoMode project.now) (λ held. IsSerialPlan project.now (HasMode rule) held.entries)) }
 {
-    p.known();
-    let mut profile = Profile::empty(alloc);
-    profile.reserve(p.jobs() as usize)?;
+    project.known();
+    let mut profile = Profile::empty(alloc, project);
+    profile.reserve(project.jobs() as usize)?;
     let mut placed = JobSet::empty();
-    while let Some(job) = most_urgent(p, placed) {
-        let Some(mode) = mode_of(p, rule, job) else {
+    while let Some(job) = most_urgent(project, placed) {
+        let Some(mode) = mode_of(project, rule, job) else {
             return Ok(None);
         };
-        let done = predecessors_done(p, profile.entries(), job);
-        let start = profile.earliest(p, job, mode, done).unwrap();
-        profile.place(p, job, mode, start)?;
+        let done = predecessors_done(project, profile.entries(), job);
+        let start = profile.earliest(project, job, mode, done).unwrap();
+        profile.place(project, job, mode, start)?;
         placed = placed.with(Job(job));
     }
     Ok(Some(profile))

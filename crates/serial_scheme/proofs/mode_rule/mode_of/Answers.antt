@@ -8,7 +8,7 @@ use Rattle.serial_scheme.proofs.mode_rule.mode_of.Goals.{then-executable, else-e
 
 pub loop-mode-preserved : goal.loop-mode-preserved
 loop-mode-preserved c =
-    let P = c.args.p.now in let j = c.args.job in let n = c.loop-mode.mode in
+    let P = c.args.project.now in let j = c.args.job in let n = c.loop-mode.mode in
     let weight = weight_of c.args.rule P j in
     let mode : IsMode P j n = (c.loop-mode.auto.mode, let t = c.loop-mode-test.true in let e = c.modes-mode-end.ensures.value in omega arith) in
     elim c.if-executable.branch [
@@ -20,10 +20,10 @@ loop-mode-preserved c =
 
 pub returns-clause-some : goal.returns-clause-some
 returns-clause-some c =
-    mode-from_best c.args.rule c.args.p.now c.args.job c.loop-mode.mode c.loop-mode.best
+    mode-from_best c.args.rule c.args.project.now c.args.job c.loop-mode.mode c.loop-mode.best
     (λ m r. let f = c.loop-mode-test.false in let e = c.modes-mode-end.ensures.value in let high = r.1 in omega arith) c.loop-mode.invariant
 
 pub returns-clause-none : goal.returns-clause-none
 returns-clause-none c =
-    no_mode-from_best c.args.rule c.args.p.now c.args.job c.loop-mode.mode c.loop-mode.best
+    no_mode-from_best c.args.rule c.args.project.now c.args.job c.loop-mode.mode c.loop-mode.best
     (λ m r. let f = c.loop-mode-test.false in let e = c.modes-mode-end.ensures.value in let high = r.1 in omega arith) c.loop-mode.invariant

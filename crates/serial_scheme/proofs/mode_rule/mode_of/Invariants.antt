@@ -3,4 +3,4 @@ use Rattle.serial_scheme.proofs.ModeSteps.{BestBelow}
 use Rattle.serial_scheme.proofs.mode_rule.mode_of.Given as goal
 
 abbrev pub invariant-loop-mode : goal.invariant-loop-mode
-invariant-loop-mode l = BestBelow l.p l.job (weight_of l.rule l.p l.job) l.mode l.best
+invariant-loop-mode l = BestBelow l.project l.job (weight_of l.rule l.project l.job) l.mode l.best

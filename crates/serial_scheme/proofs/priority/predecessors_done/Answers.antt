@@ -7,7 +7,7 @@ use Rattle.serial_scheme.proofs.priority.predecessors_done.Goals.{then-has, else
 
 pub loop-entry-preserved : goal.loop-entry-preserved
 loop-entry-preserved c =
-    let P = c.args.p.now in let es = c.args.entries.now in let j = c.args.job in let i = c.loop-entry.entry-index in
+    let P = c.args.project.now in let es = c.args.entries.now in let j = c.args.job in let i = c.loop-entry.entry-index in
     let of : IsOf P (get_or es i no_entry) = c.requires.entries i no_entry c.loop-entry-test.true in
     let same : is_before P (get_or es i no_entry).job j ≡ c.has.result = sym (c.has.ensures ∙ c.preds-predecessors.ensures (get_or es i no_entry).job of.job.0) in
     let old = c.loop-entry.invariant in
