@@ -1,0 +1,16 @@
+pub mod BlockLemmas
+pub mod WeightLemmas
+pub mod WalkLemmas
+pub mod SpanLemmas
+pub mod NumberLemmas
+pub mod LineLemmas
+pub mod FillLemmas
+pub mod StayLemmas
+pub mod LogLemmas
+pub mod VerdictLemmas
+pub mod LeftLemmas
+pub mod GrowLemmas
+pub mod RoomLemmas
+pub mod ParentLemmas
+pub mod LeanLemmas
+pub mod ExampleLemmas

@@ -1,0 +1,5 @@
+use Rattle.search_log.proofs.LeftLemmas.{IsLeastBefore}
+use Rattle.search_log.proofs.closing.least_left.Given as goal
+
+abbrev pub invariant-loop-place : goal.invariant-loop-place
+invariant-loop-place l = IsLeastBefore l.rows l.place l.least

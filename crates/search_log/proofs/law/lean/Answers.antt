@@ -1,0 +1,5 @@
+use Rattle.search_log.proofs.LeanLemmas.{lean_law}
+use Rattle.search_log.proofs.law.lean.Goals as goal
+
+pub returns : goal.returns
+returns c = lean_law

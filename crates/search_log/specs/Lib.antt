@@ -1,0 +1,10 @@
+pub mod Blocks
+pub mod Weights
+pub mod Fates
+pub mod Table
+pub mod Walk
+pub mod Stands
+pub mod Told
+pub mod Lean
+pub mod Laws
+pub mod Examples
