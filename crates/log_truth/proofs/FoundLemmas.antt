@@ -14,7 +14,7 @@ use Rattle.log_truth.proofs.RefusalLemmas.{parts-line, good-line, wants-logs, go
 use Rattle.log_truth.proofs.DecideLemmas.{named_decided, rightly_shut_decided, rightly_started_decided, allowed_decided, few_decided, HaveFronts, served_decided, lower_decided}
 
 -- One line: its rules in order.
-line-found : (P : Project) (a : IsAcyclic P) (v : Verdict) (k : ℕ) (b : Branch) (l : LogLine) → IsBranch P b → IsGood P v k b l ⊎ ((f : Fault) × HasFault P v k b l f)
+pub line-found : (P : Project) (a : IsAcyclic P) (v : Verdict) (k : ℕ) (b : Branch) (l : LogLine) → IsBranch P b → IsGood P v k b l ⊎ ((f : Fault) × HasFault P v k b l f)
 line-found P a v k b l is =
     elim (named_decided b l) [
       | inr no_ ↦ inr (wrong_child, inl (no_, refl))

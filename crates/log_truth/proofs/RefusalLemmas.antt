@@ -57,7 +57,7 @@ breaks-one (inl x) (inr y) next = absurd (x.0 y.0)
 breaks-one (inr x) (inl y) next = absurd (y.0 x.0)
 breaks-one (inr x) (inr y) next = next x.1 y.1
 
-good-no_fault : (P : Project) (v : Verdict) (k : ℕ) (b : Branch) (l : LogLine) (x : Fault) → IsGood P v k b l → HasFault P v k b l x → ⊥
+pub good-no_fault : (P : Project) (v : Verdict) (k : ℕ) (b : Branch) (l : LogLine) (x : Fault) → IsGood P v k b l → HasFault P v k b l x → ⊥
 good-no_fault P v k b l x g f =
     breaks-none f g.named (λ f. breaks-none f g.shut (λ f. breaks-none f g.started (λ f. breaks-none f g.allowed (λ f. breaks-none f g.few (λ none. none)))))
 
@@ -66,7 +66,7 @@ fault-one P v k b l x y f g =
     breaks-one f g (λ f g. breaks-one f g (λ f g. breaks-one f g (λ f g. breaks-one f g (λ f g. breaks-one f g (λ none g. absurd none)))))
 
 -- Lists of lines.
-wants-no_fault : (P : Project) (v : Verdict) (bs : List Branch) (k i : ℕ) (ls : List LogLine) (n : ℕ) (x : Fault) → WantsFrom P v bs k ls [] → IsFirstFault P v bs k i ls n x → ⊥
+pub wants-no_fault : (P : Project) (v : Verdict) (bs : List Branch) (k i : ℕ) (ls : List LogLine) (n : ℕ) (x : Fault) → WantsFrom P v bs k ls [] → IsFirstFault P v bs k i ls n x → ⊥
 wants-no_fault P v [] k i [] n x w f = f
 wants-no_fault P v (b ∷ bs) k i [] n x w f = absurd (cc)
 wants-no_fault P v [] k i (l ∷ ls) n x w f = w
@@ -87,7 +87,7 @@ served-none P all i [] n s f = f
 served-none P all i (x ∷ ns) n s (inl f) = f.1 (s x (inl refl))
 served-none P all i (x ∷ ns) n s (inr f) = served-none P all (i + 1) ns n (λ y j. s y (inr j)) f.1
 
-unserved-one : (P : Project) (all : List LogNode) (i : ℕ) (ns : List LogNode) (m n : ℕ) → IsFirstUnserved P all i ns m → IsFirstUnserved P all i ns n → m ≡ n
+pub unserved-one : (P : Project) (all : List LogNode) (i : ℕ) (ns : List LogNode) (m n : ℕ) → IsFirstUnserved P all i ns m → IsFirstUnserved P all i ns n → m ≡ n
 unserved-one P all i [] m n f g = absurd f
 unserved-one P all i (x ∷ ns) m n (inl f) (inl g) = f.0 ∙ sym g.0
 unserved-one P all i (x ∷ ns) m n (inl f) (inr g) = absurd (f.1 g.0)

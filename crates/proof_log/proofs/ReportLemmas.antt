@@ -104,7 +104,7 @@ part_is_lines None is bytes = (tt, tt)
 part_is_lines (Some log) is bytes = (tt, log_is_lines log is (recursion_from_All (λ line. (line.job < 256) × (line.mode < 256)) log bytes))
 
 -- the lines of a report are lines
-lines_are_lines : (r : Report) → IsReport r → HasBytes r → AllByRecursion IsLine (lines_of r)
+pub lines_are_lines : (r : Report) → IsReport r → HasBytes r → AllByRecursion IsLine (lines_of r)
 lines_are_lines r is bytes =
     let tail = both_parts IsLine (log_part r.log) (End ∷ []) (part_is_lines r.log is.log bytes.log) (tt, tt) in
     let rest = both_parts IsLine (best_part r.best) (log_part r.log ++ End ∷ []) (best_is_lines r.best is.best bytes.modes) tail in
