@@ -14,7 +14,7 @@ use Rattle.rcpsp_model.specs.Dominance.{Dominates}
 use Rattle.rcpsp_model.proofs.Lists.{In, In-All, All-from_In, In-from_Contains, Contains-from_In, sum_by-total, sum_by-filter}
 use Rattle.rcpsp_model.proofs.Numbers.{least_below, lt_decided, some_decided, true_decided}
 use Rattle.rcpsp_model.proofs.Entries.{has_job-In, entry_of, same_entry}
-use Rattle.rcpsp_model.proofs.CompletesLemmas.{front-distinct}
+use Rattle.rcpsp_model.proofs.Completed.{front-distinct}
 use Rattle.rcpsp_model.proofs.Sound.{front-sound}
 use Rattle.precedence_tree.specs.declared.active.Active.{Active}
 use Rattle.precedence_tree.specs.declared.base.Base.{Base}

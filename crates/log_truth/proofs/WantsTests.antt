@@ -8,7 +8,7 @@ use Rattle.proof_log.specs.declared.report.LogLine.{LogLine}
 use Rattle.log_truth.specs.Log.{Branch, at_root, below}
 use Rattle.log_truth.specs.Holds.{most_expanded}
 use Rattle.log_truth.specs.Refusal.{IsGood, expanded_by, WantsFrom, Wants}
-use Rattle.log_truth.proofs.RefusalLemmas.{line-parts}
+use Rattle.log_truth.proofs.OneRefusal.{line-parts}
 use Rattle.log_truth.proofs.LineTests.{line_test, line_test-true}
 use Rattle.log_truth.proofs.HoldsTests.{allowed_test, allowed_test-true}
 

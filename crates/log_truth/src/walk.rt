@@ -15,7 +15,7 @@ pub fn next_line()
 {}
 
 /// A log has few lines, and so has what is wanted after some of them.
-#[tactic(auto, using(crate::proofs::RoomLemmas::room_law))]
+#[tactic(auto, using(crate::proofs::FewLines::room_law))]
 pub fn few_lines()
     ensures { RoomLaw }
 {}

@@ -8,7 +8,7 @@ use Rattle.rcpsp_model.specs.Tree.{last_start, IsFront}
 use Rattle.rcpsp_model.specs.Bounds.{periods_left}
 use Rattle.rcpsp_model.proofs.Lists.{In-All, In-from_Contains, total-same, sum_by-total}
 use Rattle.rcpsp_model.proofs.Usage.{finish-le-end}
-use Rattle.rcpsp_model.proofs.FrontLemmas.{front-end, named-in_turn, duration-limit}
+use Rattle.rcpsp_model.proofs.Fronts.{front-end, named-in_turn, duration-limit}
 use Rattle.precedence_tree.specs.declared.active.Active.{Active}
 use Rattle.precedence_tree.specs.Active.{IsActive, AreActive}
 use Rattle.precedence_tree.specs.Node.{joined}

@@ -16,8 +16,8 @@ use Rattle.rcpsp_model.proofs.Lists.{In, In-All, In-filter, filter-In, In-from_C
 use Rattle.rcpsp_model.proofs.Numbers.{some_decided, both_decided, true_decided, false_decided}
 use Rattle.rcpsp_model.proofs.Entries.{entry_of}
 use Rattle.rcpsp_model.proofs.Usage.{finish-le-end, end-le}
-use Rattle.rcpsp_model.proofs.FrontLemmas.{last-le-end, named-in_turn}
-use Rattle.rcpsp_model.proofs.TailLemmas.{has_tail_law}
+use Rattle.rcpsp_model.proofs.Fronts.{last-le-end, named-in_turn}
+use Rattle.rcpsp_model.proofs.Tails.{has_tail_law}
 use Rattle.rcpsp_model.proofs.Sound.{IsSound, front-sound}
 use Rattle.precedence_tree.specs.declared.active.Active.{Active}
 use Rattle.precedence_tree.specs.Active.{IsActive, AreActive}

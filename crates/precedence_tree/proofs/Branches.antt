@@ -8,7 +8,7 @@ use Rattle.rcpsp_model.specs.declared.parts.Shut.TheVariants.{NoCapacity, NoBudg
 use Rattle.rcpsp_model.specs.Project.{Project, job_count, IsMode}
 use Rattle.rcpsp_model.specs.Chain.{IsLeast}
 use Rattle.rcpsp_model.specs.Tree.{entry_at, CanStart, Follows, IsEligible, IsShut, IsPlacedChild, IsChild, Choice, choices_by, choices_of, Children, AreChildrenBy}
-use Rattle.rcpsp_model.proofs.ChoiceLemmas.{choices_to, zip-append, choices_by-push, choices_to-eligible, choices_to-other}
+use Rattle.rcpsp_model.proofs.Choices.{choices_to, zip-append, choices_by-push, choices_to-eligible, choices_to-other}
 use Rattle.precedence_tree.specs.Node.{NodeState}
 use Rattle.precedence_tree.specs.Children.{child_front, child_fronts, Appends, IsOpen}
 use Rattle.precedence_tree.proofs.Pushed.{leaves-keeps, leaves-start}

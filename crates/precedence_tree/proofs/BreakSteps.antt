@@ -4,7 +4,7 @@ use Rattle.std.specs.Prelude.{◌↔◌}
 use Rattle.std.proofs.lemmas.Bool.{cases_lt}
 use Rattle.rcpsp_model.specs.Project.{Project, request, duration, capacity, IsRenewable}
 use Rattle.rcpsp_model.specs.Schedule.{cap, calm}
-use Rattle.rcpsp_model.proofs.CalendarLemmas.{whole_law}
+use Rattle.rcpsp_model.proofs.Calendars.{whole_law}
 use Rattle.project_net.specs.declared.stretches.Stretch.{Stretch}
 use Rattle.project_net.specs.Stretches.{begin_of, capacity_of, AreStretches}
 use Rattle.precedence_tree.specs.declared.active.Active.{Active}

@@ -15,9 +15,9 @@ use Rattle.rcpsp_model.specs.Tree.{has_job, rest_need, entry_at, extended, IsEli
 use Rattle.rcpsp_model.proofs.Lists.{In-All, In-push_new}
 use Rattle.rcpsp_model.proofs.Entries.{has_job-push_false}
 use Rattle.rcpsp_model.proofs.Sound.{has_job-push_cases}
-use Rattle.rcpsp_model.proofs.FrontLemmas.{in_turn, front-of}
-use Rattle.rcpsp_model.proofs.TreeLemmas.{front-push}
-use Rattle.rcpsp_model.proofs.ChildLemmas.{used-start, rest_need-start}
+use Rattle.rcpsp_model.proofs.Fronts.{in_turn, front-of}
+use Rattle.rcpsp_model.proofs.RootAndLeaves.{front-push}
+use Rattle.rcpsp_model.proofs.ChildLists.{used-start, rest_need-start}
 use Rattle.project_net.proofs.Ranges.{eqb-swap}
 use Rattle.precedence_tree.specs.declared.needs.Needs.{Needs}
 use Rattle.precedence_tree.specs.Needs.{AreSmall, HaveLeast, HaveLeastWork, AreNeeds, AreWorks, AreBefore, Exceeds}

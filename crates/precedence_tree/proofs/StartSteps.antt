@@ -8,8 +8,8 @@ use Rattle.rcpsp_model.specs.Schedule.{calm}
 use Rattle.rcpsp_model.specs.Chain.{IsLeast}
 use Rattle.rcpsp_model.specs.Tree.{last_start, IsFront, Fits, CanStart}
 use Rattle.rcpsp_model.specs.Bounds.{ready}
-use Rattle.rcpsp_model.proofs.CalendarLemmas.{cap_law, whole_law}
-use Rattle.rcpsp_model.proofs.FrontLemmas.{can_start-from}
+use Rattle.rcpsp_model.proofs.Calendars.{cap_law, whole_law}
+use Rattle.rcpsp_model.proofs.Fronts.{can_start-from}
 use Rattle.precedence_tree.specs.declared.active.Active.{Active}
 use Rattle.precedence_tree.specs.Active.{AreActive, load_at}
 use Rattle.precedence_tree.specs.Starts.{HasRoomAt, FitsBeside, IsNextTry}

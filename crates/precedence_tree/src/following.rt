@@ -1,9 +1,9 @@
 ghost use Rattle.std.specs.Prelude.{◌≡◌, ℕ, ◌+◌, ◌-◌, ◌≤◌, ◌↔◌, ◌++◌, ◌∷◌, [], List, IsTrue, IfOk, MatchOption, slice_index};
 ghost use Rattle.rcpsp_model.specs.Project.{IsJob, IsMode, IsNonrenewable, need, budget};
 ghost use Rattle.rcpsp_model.specs.Chain.{IsLeast};
-ghost use Rattle.rcpsp_model.specs.Tree.{IsEligible, CanStart, Follows};
+ghost use Rattle.rcpsp_model.specs.Tree.{IsFront, IsEligible, CanStart, Follows};
 ghost use Rattle.precedence_tree.specs.Base.{IsBaseOf};
-ghost use Rattle.precedence_tree.specs.Node.{StandsFor, StepsTo};
+ghost use Rattle.precedence_tree.specs.Node.{StandsFor, StepsTo, IsNodeOf};
 
 use crate::base::{Base, Expansion};
 use crate::expanding::expand;
@@ -94,4 +94,22 @@ pub fn follow(
     let expansion = expand(alloc, project, node)?;
     let next = follow_from(project, &expansion, entry)?;
     Ok(next)
+}
+
+/// The node of the entries, where they are a front of the project, whether or not a child has each of them.
+pub fn node_of(
+    alloc: Global,
+    project: &Project,
+    entries: &[Entry],
+) -> Result<Option<Node>, NoMemory>
+    ensures { IfOk result (λ o. MatchOption o (IsFront project.now entries.now → ⊥) (IsNodeOf project.now entries.now)) }
+{
+    let mut node = Node::root();
+    for place in 0..entries.len() {
+        match follow(alloc, project, &node, entries[place])? {
+            Some(next) => node = next,
+            None => return Ok(None),
+        }
+    }
+    Ok(Some(node))
 }

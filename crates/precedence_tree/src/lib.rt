@@ -23,7 +23,7 @@ pub use active::Active;
 pub use base::{Base, Expansion};
 pub use branch::{Children, child, child_of, children, children_of, eligible};
 pub use expanding::expand;
-pub use following::follow;
+pub use following::{follow, node_of};
 pub use leaf::{is_leaf, schedule};
 pub use needs::Needs;
 pub use node::Node;

@@ -9,10 +9,10 @@ use Rattle.rcpsp_model.specs.Project.{Project, IsRenewable, IsWithinLimits, requ
 use Rattle.rcpsp_model.specs.Schedule.{usage, finish, end_of, calm, is_active, IsOf, AreOf, KeepsCapacities}
 use Rattle.rcpsp_model.specs.Modes.{IsExecutable}
 use Rattle.rcpsp_model.specs.Tree.{Fits}
-use Rattle.rcpsp_model.proofs.FrontLemmas.{usage-push, keeps-push, fits-past_end, duration-limit}
+use Rattle.rcpsp_model.proofs.Fronts.{usage-push, keeps-push, fits-past_end, duration-limit}
 use Rattle.rcpsp_model.proofs.Lists.{In-All, total-le}
 use Rattle.rcpsp_model.proofs.Usage.{load, usage-total, load-active, load-after, end-le}
-use Rattle.rcpsp_model.proofs.CalendarLemmas.{cap_law}
+use Rattle.rcpsp_model.proofs.Calendars.{cap_law}
 use Rattle.profiles.specs.declared.profile.Profile.TheInside.{Inside}
 use Rattle.profiles.specs.declared.steps.Steps.{Steps}
 use Rattle.profiles.specs.Steps.{IsStepped, HasSteps}

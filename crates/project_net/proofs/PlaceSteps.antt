@@ -1,8 +1,8 @@
 -- The places of a schedule, one entry further.
-use Rattle.std.proofs.Common.{◌≡◌, ℕ, zero, suc, ◌+◌, ◌-◌, ◌<◌, ◌≤◌, inl, inr, arith, sym, ap, subst, ◌∙◌, List, [], ◌∷◌, ◌++◌, length, get_or, take, set, length-set, get_or-set_same, get_or-set_other, append_assoc, true, false}
+use Rattle.std.proofs.Common.{◌≡◌, ℕ, zero, suc, ◌+◌, ◌-◌, ◌<◌, ◌≤◌, inl, inr, arith, sym, ap, subst, ◌∙◌, List, [], ◌∷◌, ◌++◌, length, get_or, take, set, length-set, get_or-set_same, get_or-set_other, true, false}
 use Rattle.std.specs.Prelude.{Contains}
 use Rattle.std.proofs.lemmas.Bool.{both_ways}
-use Rattle.std.proofs.lemmas.List.{append-nil, take_more}
+use Rattle.std.proofs.lemmas.List.{take_more}
 use Rattle.std.proofs.lemmas.List.Elements.{Contains-get_or}
 use Rattle.rcpsp_model.specs.declared.parts.Entry.{Entry}
 use Rattle.rcpsp_model.specs.declared.parts.Placing.{Placing}
@@ -10,12 +10,8 @@ use Rattle.rcpsp_model.specs.Schedule.{entries, entries_from, Agrees}
 use Rattle.rcpsp_model.proofs.Lists.{In, In-push, In-from_Contains, Contains-from_In, All-from_In, In-All}
 use Rattle.rcpsp_model.proofs.Entries.{has_job-In}
 use Rattle.rcpsp_model.specs.Tree.{has_job, entry_at, InTurn}
-use Rattle.rcpsp_model.proofs.FrontLemmas.{spot}
+use Rattle.rcpsp_model.proofs.Fronts.{spot, in_turn-at}
 use Rattle.project_net.specs.Placings.{HaveJobsOnce}
-
--- an entry that stands past the end of a list
-abbrev pub no_entry : Entry
-no_entry = record { job = 0; mode = 0; start = 0 }
 
 -- where an entry's job stands
 abbrev pub place_of : Entry → Placing
@@ -80,13 +76,6 @@ In-take (e ∷ es) (suc i) x (inr m) = inr (In-take es i x m)
 pub in_turn-weaker : {X : Type 0} (R S : List X → X → Type 0) → ((F : List X) (x : X) → R F x → S F x) → (F es : List X) → InTurn R F es → InTurn S F es
 in_turn-weaker R S w F [] t = tt
 in_turn-weaker R S w F (e ∷ es) t = (w F e t.0, in_turn-weaker R S w (F ++ e ∷ []) es t.1)
-
--- an item stands in the relation to the items before it
-in_turn-at : (R : List Entry → Entry → Type 0) (before es : List Entry) (i : ℕ) (d : Entry) → InTurn R before es → i < length es → R (before ++ take i es) (get_or es i d)
-in_turn-at R before [] i d t h = absurd (let z : i < 0 = h in omega arith)
-in_turn-at R before (e ∷ es) zero d t h = subst (λ (xs : List Entry). R xs e) (sym (append-nil before)) t.0
-in_turn-at R before (e ∷ es) (suc i) d t h =
-    subst (λ (xs : List Entry). R xs (get_or es i d)) (append_assoc before (e ∷ []) (take i es)) (in_turn-at R (before ++ e ∷ []) es i d t.1 (let z : suc i < suc (length es) = h in omega arith))
 
 pub places-more : (n : ℕ) (es : List Entry) (places : List Placing) (i : ℕ) (d : Entry) → HaveJobsOnce n es → i < length es → HasPlaces n (take i es) places →
     HasPlaces n (take (i + 1) es) (set places ((get_or es i d).job - 1) (place_of (get_or es i d)))

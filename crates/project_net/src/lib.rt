@@ -2,8 +2,6 @@
 #![tactic(auto)]
 
 mod appending;
-#[cfg(test)]
-mod calendar_tests;
 mod causes;
 mod chains;
 mod draft;
@@ -14,19 +12,13 @@ mod least;
 mod mode_table;
 mod network;
 mod oracle;
-#[cfg(test)]
-mod oracle_tests;
 mod order;
 mod print;
-#[cfg(test)]
-mod print_tests;
 mod project;
 mod reach;
 mod refusal;
 mod schedule;
 mod stretches;
-#[cfg(test)]
-mod tests;
 
 pub use draft::{BuildRefusal, Draft, DraftJob};
 pub use oracle::{Oracle, OracleAnswer, Reply};

@@ -12,7 +12,7 @@ use rcpsp_model::Verdict;
 use sched_base::{Failed, Sink, write_whole};
 
 /// Appends a line and its LF.
-#[tactic(auto, using(crate::proofs::WritingLemmas::text_of_line))]
+#[tactic(auto, using(crate::proofs::WrittenParts::text_of_line))]
 fn write_line<K: Sink>(out: &mut K, line: ReportLine) -> Result<(), Failed>
     ensures whole { OnOk result (Gains (K.held out.old) (K.held out.new) (text_of_lines (line ∷ []))) }
     ensures front { OnErr result (GainsFront (K.held out.old) (K.held out.new) (text_of_lines (line ∷ []))) }

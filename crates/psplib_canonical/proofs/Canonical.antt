@@ -3,7 +3,7 @@ use Rattle.std.proofs.Common.{◌≡◌, ℕ, List, sym, subst, arith}
 use Rattle.psplib_lex.specs.Line.{Line}
 use Rattle.psplib_layout.specs.Layout.{ReadsLayout}
 use Rattle.psplib_layout.specs.Text.{HasContent, Reads}
-use Rattle.psplib_layout.proofs.TextLemmas.{one_project}
+use Rattle.psplib_layout.proofs.OneContent.{one_project}
 use Rattle.rcpsp_model.specs.Project.{Project, IsWithinLimits, IsProject}
 use Rattle.project_net.specs.Canonical.{canonical, canonical_lines}
 use Rattle.psplib_canonical.proofs.Kept.{lines_of-text_of, length-text_of}

@@ -13,7 +13,7 @@ use Rattle.psplib_lex.specs.Line.{is_line_end}
 use Rattle.rcpsp_model.specs.Project.{Project, Activity, IsWithinLimits, IsActivityWithinLimits, IsModeWithinLimits, job_count, jobs, renewables, nonrenewables, numbers_from}
 use Rattle.rcpsp_model.specs.declared.parts.CalRow.{CalRow}
 use Rattle.rcpsp_model.specs.declared.parts.Mode.{Mode}
-use Rattle.rcpsp_model.proofs.CalendarLemmas.{calm_law}
+use Rattle.rcpsp_model.proofs.Calendars.{calm_law}
 use Rattle.project_net.specs.Canonical.{spaced, row, keyed, greatest, horizon, precedence_row, labels, all_labels, all_mode_lines, stars, hyphens, title_lines, resource_lines, information_lines, precedence_lines, requests_lines, amount_lines, availability_lines, calendar_row, calendar_lines, canonical_lines}
 use Rattle.project_net.proofs.Appended.{length-numbers}
 use Rattle.psplib_canonical.proofs.Words.{is_word, decimal-word}

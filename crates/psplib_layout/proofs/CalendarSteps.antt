@@ -12,7 +12,7 @@ use Rattle.psplib_layout.specs.Calendar.{cal_row, cal_rows}
 use Rattle.psplib_layout.proofs.Taking.{wanted_found}
 use Rattle.psplib_layout.proofs.Faults.{number_taken}
 use Rattle.psplib_layout.proofs.Loops.{with_front, with_none_more, first_of, first_stops}
-use Rattle.psplib_layout.proofs.CalendarLemmas.{IsRead, row_read}
+use Rattle.psplib_layout.proofs.CalendarRows.{IsRead, row_read}
 
 -- a number that was read keeps the rule that it was read under
 pub ordered_read : (end floor least most : ℕ) (rule : Rule) (lines rest : List Line) (n : ℕ) → rule ≡ ordered floor least most → number_in end rule lines ≡ Ok (n, rest) → (least ≤ n) × (n ≤ most)

@@ -8,8 +8,8 @@ use Rattle.psplib_layout.specs.Precedence.{JobRow, row_numbers, rows_numbers}
 use Rattle.psplib_layout.specs.Layout.{Content}
 use Rattle.psplib_layout.specs.Text.{HasContent, line_of_word, row_line, job_line_in}
 use Rattle.psplib_layout.proofs.Places.{lines_from, past-zero}
-use Rattle.psplib_layout.proofs.HeaderLemmas.{header_again}
-use Rattle.psplib_layout.proofs.LayoutLemmas.{begun, begun_again}
+use Rattle.psplib_layout.proofs.Headers.{header_again}
+use Rattle.psplib_layout.proofs.PartsRead.{begun, begun_again}
 
 -- the word is on this line
 pub line_here : (lines : List Line) (line word left : ℕ) → line < length lines → left < length (line_at lines line).words - word → line_of_word (past word (drop line lines)) left ≡ (line_at lines line).number

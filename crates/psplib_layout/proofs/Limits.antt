@@ -12,8 +12,8 @@ use Rattle.psplib_layout.specs.Place.{Gives}
 use Rattle.psplib_layout.specs.Precedence.{JobRow, IsRow, mode_total}
 use Rattle.psplib_layout.specs.Layout.{Content, ReadsLayout, IsWithinContentLimits, mode_counts, ascending, activities_of, project_of, layout_in}
 use Rattle.psplib_layout.specs.Text.{HasContent, content_in}
-use Rattle.psplib_layout.proofs.LayoutLemmas.{layout_found}
-use Rattle.psplib_layout.proofs.TextLemmas.{content_found}
+use Rattle.psplib_layout.proofs.PartsRead.{layout_found}
+use Rattle.psplib_layout.proofs.OneContent.{content_found}
 
 pub limits_of : (lines : List Line) (content : Content) → ReadsLayout lines content → IsWithinContentLimits content
 limits_of lines content h = record {

@@ -1,5 +1,5 @@
-pub mod DraftLemmas
-pub mod LimitLemmas
-pub mod CycleLemmas
+pub mod DraftedJobs
+pub mod DraftLimits
+pub mod CycleRefused
 pub mod CycleCases
 pub mod OneReading

@@ -14,9 +14,9 @@ use Rattle.psplib_layout.specs.declared.fault.ReadError.TheVariants as errors
 use Rattle.psplib_layout.specs.Layout.{project_of}
 use Rattle.psplib_layout.specs.Text.{HasContent, Reads, IsProjectText, HasCycle, IsFirstRefusal, content_in, end_line, job_line_in, row_line}
 use Rattle.psplib_layout.proofs.Limits.{limits_of, project_limits}
-use Rattle.psplib_layout.proofs.TextLemmas.{content_found, content_again, one_content, one_project}
+use Rattle.psplib_layout.proofs.OneContent.{content_found, content_again, one_content, one_project}
 use Rattle.psplib_layout.proofs.JobLines.{job_line_is}
-use Rattle.project_net.proofs.RefusalLemmas.{leads-rises}
+use Rattle.project_net.proofs.FirstFaults.{leads-rises}
 use Rattle.psplib_reader.proofs.CycleCases.{acyclic_or_cycle}
 
 -- ---- one or the other

@@ -14,11 +14,11 @@ use Rattle.rcpsp_model.specs.Dominance.{Dominates}
 use Rattle.rcpsp_model.proofs.Lists.{In, In-from_Contains, In-filter, filter-In, sum_by-total}
 use Rattle.rcpsp_model.proofs.Entries.{entry_of}
 use Rattle.rcpsp_model.proofs.Usage.{usage-past_end}
-use Rattle.rcpsp_model.proofs.ModeLemmas.{numbers-range}
+use Rattle.rcpsp_model.proofs.LeastModes.{numbers-range}
 use Rattle.rcpsp_model.proofs.Successors.{before-job, before-any, any-In}
 use Rattle.rcpsp_model.proofs.Tests.{all_below, all_below-true, all_to, all_to-true, every, every-In, All-every, implies, implies-true, among, among-true}
 use Rattle.rcpsp_model.proofs.TreeTests.{not-true, tails_test, chain-le}
-use Rattle.rcpsp_model.proofs.ChoiceLemmas.{In-jobs}
+use Rattle.rcpsp_model.proofs.Choices.{In-jobs}
 use Rattle.rcpsp_model.proofs.ChildTests.{all_to-from, some_to, some_to-true}
 
 -- Leaves.

@@ -12,8 +12,8 @@ use Rattle.rcpsp_model.specs.Bounds.{ready, TailValue, of_front, of_chain, IsTai
 use Rattle.rcpsp_model.proofs.Lists.{In, In-filter}
 use Rattle.rcpsp_model.proofs.TreeTests.{not-true}
 use Rattle.rcpsp_model.proofs.Numbers.{Decided, least_of, least-one, le_decided, both_decided}
-use Rattle.rcpsp_model.proofs.CalendarLemmas.{whole_law}
-use Rattle.rcpsp_model.proofs.TailLemmas.{has_tail_law}
+use Rattle.rcpsp_model.proofs.Calendars.{whole_law}
+use Rattle.rcpsp_model.proofs.Tails.{has_tail_law}
 use Rattle.rcpsp_model.proofs.Sound.{IsSound, front-sound}
 use Rattle.rcpsp_model.specs.Laws.{OneTailBoundLaw, OneWorkBoundLaw, OneLowerBoundLaw}
 use Rattle.rcpsp_model.proofs.BoundTests.{unplaced-In, unplaced-job}

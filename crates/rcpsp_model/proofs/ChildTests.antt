@@ -14,7 +14,7 @@ use Rattle.rcpsp_model.proofs.Lists.{In, In-All}
 use Rattle.rcpsp_model.proofs.Tests.{all_below, all_below-true, all_below-from, all_to, all_to-true, every, All-every, implies, implies-true, implies-from, among, among-true, fits_test, fits_test-true}
 use Rattle.rcpsp_model.proofs.TreeTests.{not-true}
 use Rattle.rcpsp_model.specs.Tree.{is_eligible}
-use Rattle.rcpsp_model.proofs.ChoiceLemmas.{eligible_law}
+use Rattle.rcpsp_model.proofs.Choices.{eligible_law}
 
 pub all_to-from : (f : ℕ → Bool) (n : ℕ) → ((i : ℕ) → 1 ≤ i → i ≤ n → f i ≡ true) → all_to f n ≡ true
 all_to-from f n h = all_below-from (λ i. f (i + 1)) n (λ i low. h (i + 1) (omega arith) (omega arith))

@@ -1,5 +1,5 @@
 -- The laws, which hold of all projects, schedules and fronts. Each is the contract of a function, and so is proved.
-use Rattle.std.specs.Prelude.{◌≡◌, Option, ℕ, ◌+◌, ◌-◌, ◌*◌, ◌/◌, ◌<◌, ◌≤◌, ◌↔◌, ◌⊎◌, min, true, Some, List, [], ◌∷◌, ◌++◌, length, Contains}
+use Rattle.std.specs.Prelude.{◌≡◌, Option, ℕ, ◌+◌, ◌-◌, ◌*◌, ◌/◌, ◌<◌, ◌≤◌, ◌↔◌, min, true, Some, List, [], ◌∷◌, ◌++◌, length, Contains}
 use Rattle.rcpsp_model.specs.declared.parts.CalRow.{CalRow}
 use Rattle.rcpsp_model.specs.declared.parts.Child.TheVariants.{Placed}
 use Rattle.rcpsp_model.specs.declared.parts.Entry.{Entry}
@@ -13,8 +13,7 @@ use Rattle.rcpsp_model.specs.Bounds.{IsTailBound, IsWorkBound, IsLowerBound, res
 use Rattle.rcpsp_model.specs.Dominance.{Dominates}
 use Rattle.rcpsp_model.specs.Rank.{IsRank}
 use Rattle.rcpsp_model.specs.Plan.{IsShortestMode, IsCheapestMode, IsPlacedInTurn, IsSerialPlan, IsFirstPlan}
-use Rattle.rcpsp_model.specs.Claim.{NoneIsFeasible, NoneEndsBefore}
-use Rattle.rcpsp_model.specs.Log.{IsClosedLog, EndsLate}
+use Rattle.rcpsp_model.specs.Claim.{NoneIsFeasible}
 
 -- What there is of a renewable resource in a period.
 
@@ -239,23 +238,3 @@ FirstPlanLaw = (P : Project) (s : List Placing) → IsAcyclic P → IsFirstPlan 
 -- where a job has no executable mode, no schedule is feasible
 abbrev pub NoModeLaw : Type 0
 NoModeLaw = (P : Project) (j : ℕ) → IsJob P j → ((m : ℕ) → IsMode P j m → IsExecutable P j m → ⊥) → NoneIsFeasible P
-
--- Logs.
-
--- where a log is closed at d, each schedule that completes the front of one of its lines ends at d or later
-abbrev pub ClosedLogLaw : Type 0
-ClosedLogLaw =
-    (P : Project) (d : ℕ) (expanded closed : List (List Entry)) → IsAcyclic P → IsClosedLog P d (Contains expanded) (Contains closed) →
-    (F : List Entry) → Contains expanded F ⊎ Contains closed F → EndsLate P d F
-
--- where the empty front is one of its lines, no feasible schedule ends before d
-abbrev pub ClosedRootLaw : Type 0
-ClosedRootLaw =
-    (P : Project) (d : ℕ) (expanded closed : List (List Entry)) → IsAcyclic P → IsClosedLog P d (Contains expanded) (Contains closed) →
-    Contains expanded [] ⊎ Contains closed [] → NoneEndsBefore P d
-
--- where a log is closed at each d, no schedule is feasible
-abbrev pub NoneLaw : Type 0
-NoneLaw =
-    (P : Project) (expanded closed : List (List Entry)) → IsAcyclic P → ((d : ℕ) → IsClosedLog P d (Contains expanded) (Contains closed)) →
-    Contains expanded [] ⊎ Contains closed [] → NoneIsFeasible P

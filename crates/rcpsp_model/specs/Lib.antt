@@ -8,6 +8,5 @@ pub mod Dominance
 pub mod Rank
 pub mod Plan
 pub mod Claim
-pub mod Log
 pub mod Laws
 pub mod Examples

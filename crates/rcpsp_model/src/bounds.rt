@@ -1,7 +1,7 @@
 ghost use Rattle.rcpsp_model.specs.Laws.{TailLaw, HasTailLaw, JobTailLaw, WorkLaw, QuotientLaw, LowerLaw, GapLaw, OneTailBoundLaw, OneWorkBoundLaw, OneLowerBoundLaw};
 
 /// What completes a front ends at its tail bound or later.
-#[tactic(auto, using(crate::proofs::BoundLemmas::tail_law))]
+#[tactic(auto, using(crate::proofs::BoundsHold::tail_law))]
 pub fn tail_bound()
     ensures { TailLaw }
 {}
@@ -23,13 +23,13 @@ pub fn work_quotient()
 {}
 
 /// What completes a front ends at its lower bound or later.
-#[tactic(auto, using(crate::proofs::BoundLemmas::lower_law))]
+#[tactic(auto, using(crate::proofs::BoundsHold::lower_law))]
 pub fn lower_bound()
     ensures { LowerLaw }
 {}
 
 /// Nothing completes a front that has a budget gap.
-#[tactic(auto, using(crate::proofs::BoundLemmas::gap_law))]
+#[tactic(auto, using(crate::proofs::BoundsHold::gap_law))]
 pub fn budget_gap()
     ensures { GapLaw }
 {}

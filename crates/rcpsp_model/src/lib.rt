@@ -4,7 +4,6 @@
 
 mod bounds;
 mod examples;
-mod log;
 mod parts;
 mod plan;
 mod project;
@@ -14,7 +13,6 @@ pub use bounds::{
     budget_gap, job_tail, lower_bound, one_bound, tail_bound, work_bound, work_quotient,
 };
 pub use examples::{after_a_break, needs_differ, short_or_cheap, two_in_turn, zero_lengths};
-pub use log::closed_log;
 pub use parts::{CalRow, Child, Entry, Mode, Placing, Shut, Verdict};
 pub use plan::{first_plan, no_executable_mode, placed_in_turn, serial_plan};
 pub use project::{calendar, capacities, job_rank, same_facts};

@@ -12,7 +12,7 @@ pub fn serial_plan()
 {}
 
 /// There is one first plan, or none; and it is feasible.
-#[tactic(auto, using(crate::proofs::PlanLemmas::first_plan_law, crate::proofs::OnePlanLemmas::one_first_plan_law))]
+#[tactic(auto, using(crate::proofs::PlansFeasible::first_plan_law, crate::proofs::OnePlan::one_first_plan_law))]
 pub fn first_plan()
     ensures one { OneFirstPlanLaw }
     ensures feasible { FirstPlanLaw }

@@ -109,7 +109,7 @@ impl Shelf for MemShelf {
         }
     }
 
-    #[tactic(auto, using(crate::proofs::TakenLemmas::taken_of_last))]
+    #[tactic(auto, using(crate::proofs::TakenRests::taken_of_last))]
     fn read(&mut self, piece: &mut [u8]) -> Result<usize, Failed>
         ensures bound { IfOk result (λ n. n ≤ length piece.new) }
         ensures taken { IfOk result (λ n. Takes self.old.left self.new.left piece.new n) }

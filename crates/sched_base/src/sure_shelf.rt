@@ -60,7 +60,7 @@ impl Shelf for SureShelf {
 
     ghost faults = { λ _. 0 };
 
-    #[tactic(auto, using(crate::proofs::TextLemmas::no_text))]
+    #[tactic(auto, using(crate::proofs::NamedTexts::no_text))]
     fn begin(&mut self, name: &str) -> Result<(), Failed>
         ensures begun { OnOk result (Begins (Some self.old.texts) name.now self.new.left) }
         ensures put_down { OnErr result (self.new.left ≡ []) }
@@ -78,7 +78,7 @@ impl Shelf for SureShelf {
         Ok(())
     }
 
-    #[tactic(auto, using(crate::proofs::TakenLemmas::taken_of_last))]
+    #[tactic(auto, using(crate::proofs::TakenRests::taken_of_last))]
     fn read(&mut self, piece: &mut [u8]) -> Result<usize, Failed>
         ensures bound { IfOk result (λ n. n ≤ length piece.new) }
         ensures taken { IfOk result (λ n. Takes self.old.left self.new.left piece.new n) }

@@ -66,7 +66,7 @@ impl Sink for SureSink {
 
     ghost faults = { λ _. 0 };
 
-    #[tactic(auto, using(crate::proofs::KeptLemmas::gains_kept, crate::proofs::KeptLemmas::kept_of_room))]
+    #[tactic(auto, using(crate::proofs::KeptPieces::gains_kept, crate::proofs::KeptPieces::kept_of_room))]
     fn write(&mut self, piece: &[u8]) -> Result<usize, Failed>
         ensures bound { IfOk result (λ n. n ≤ length piece.now) }
         ensures some { IfOk result (λ n. 1 ≤ length piece.now → 1 ≤ n) }

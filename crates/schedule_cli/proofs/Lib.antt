@@ -1,5 +1,5 @@
-pub mod ChainLemmas
-pub mod ClaimLemmas
-pub mod ReportLemmas
-pub mod FrontLemmas
-pub mod StatusLemmas
+pub mod LongestChains
+pub mod ClaimsFollow
+pub mod ReportTexts
+pub mod TextFronts
+pub mod StatusesTold

@@ -25,12 +25,12 @@ use std::alloc::Global;
 use std::thread::Threads;
 
 /// The report on a project: its first plan, and what the plan and the longest chain show.
-fn report_on(alloc: Global, p: &Project) -> Result<Report, NoMemory>
-    ensures report { IfOk result (λ report. IsReportOn p.now report) }
+fn report_on(alloc: Global, project: &Project) -> Result<Report, NoMemory>
+    ensures report { IfOk result (λ report. IsReportOn project.now report) }
     ensures text { IfOk result IsReport }
 {
-    let best = first_plan(alloc, p)?;
-    let verdict = verdict_of(p, &best);
+    let best = first_plan(alloc, project)?;
+    let verdict = verdict_of(project, &best);
     Ok(Report {
         verdict,
         best,

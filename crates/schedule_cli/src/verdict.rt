@@ -11,16 +11,16 @@ use project_net::{Project, Schedule};
 use rcpsp_model::{Verdict, first_plan, job_tail};
 
 /// The verdict of a first plan, where the longest chain has this length.
-fn judged(p: &Project, plan: &Option<Schedule>, longest: u32) -> Verdict
-    requires first { IsFirstPlan p.now plan.now }
-    requires early { IfSome plan.now (λ s. end_of p.now (entries s) ≤ 1290000) }
-    ensures { IsVerdictOf p.now longest plan.now result }
+fn judged(project: &Project, plan: &Option<Schedule>, longest: u32) -> Verdict
+    requires first { IsFirstPlan project.now plan.now }
+    requires early { IfSome plan.now (λ s. end_of project.now (entries s) ≤ 1290000) }
+    ensures { IsVerdictOf project.now longest plan.now result }
 {
-    p.known();
+    project.known();
     first_plan();
     match plan {
         Some(plan) => {
-            let duration = p.end(plan);
+            let duration = project.end(plan);
             if duration == longest {
                 Verdict::Optimal { duration }
             } else {
@@ -30,7 +30,7 @@ fn judged(p: &Project, plan: &Option<Schedule>, longest: u32) -> Verdict
                 }
             }
         }
-        None if is_single_mode(p) => Verdict::Infeasible,
+        None if is_single_mode(project) => Verdict::Infeasible,
         None => Verdict::Limit {
             duration: None,
             lower: longest,
@@ -39,16 +39,16 @@ fn judged(p: &Project, plan: &Option<Schedule>, longest: u32) -> Verdict
 }
 
 /// The verdict of the first plan: optimal where it ends with the longest chain.
-pub fn verdict_of(p: &Project, plan: &Option<Schedule>) -> Verdict
-    requires first { IsFirstPlan p.now plan.now }
-    requires early { IfSome plan.now (λ s. end_of p.now (entries s) ≤ 1290000) }
-    requires infeasible { IfNone plan.now (nonrenewables p.now ≡ 0 → NoneIsFeasible p.now) }
-    ensures value { (h : ℕ) × IsLongestChain p.now h × IsVerdictOf p.now h plan.now result }
-    ensures claim { Claim p.now result plan.now }
+pub fn verdict_of(project: &Project, plan: &Option<Schedule>) -> Verdict
+    requires first { IsFirstPlan project.now plan.now }
+    requires early { IfSome plan.now (λ s. end_of project.now (entries s) ≤ 1290000) }
+    requires infeasible { IfNone plan.now (nonrenewables project.now ≡ 0 → NoneIsFeasible project.now) }
+    ensures value { (h : ℕ) × IsLongestChain project.now h × IsVerdictOf project.now h plan.now result }
+    ensures claim { Claim project.now result plan.now }
     ensures text { IsReport (record { verdict = result; best = plan.now; log = None }) }
 {
-    p.known();
+    project.known();
     first_plan();
     job_tail();
-    judged(p, plan, longest_chain(p))
+    judged(project, plan, longest_chain(project))
 }

@@ -8,11 +8,8 @@ use Rattle.std.proofs.lemmas.List.Elements.{filter_more}
 use Rattle.rcpsp_model.specs.declared.parts.Entry.{Entry}
 use Rattle.rcpsp_model.specs.Project.{Project, is_before}
 use Rattle.rcpsp_model.specs.Schedule.{finish, end_of}
-use Rattle.rcpsp_model.proofs.FrontLemmas.{end-push}
+use Rattle.rcpsp_model.proofs.Fronts.{end-push}
 use Rattle.serial_scheme.specs.Priority.{done_at}
-
-abbrev pub no_entry : Entry
-no_entry = record { job = 0; mode = 0; start = 0 }
 
 end-filter_more : (P : Project) (p : Entry → Bool) (es : List Entry) (i : ℕ) (d : Entry) → i < length es →
     end_of P (filter p (take (i + 1) es)) ≡ cond (p (get_or es i d)) (max (end_of P (filter p (take i es))) (finish P (get_or es i d))) (end_of P (filter p (take i es)))

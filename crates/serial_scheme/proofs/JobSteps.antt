@@ -4,7 +4,7 @@ use Rattle.std.specs.Prelude.{Option, Some, None, IfSome, IfNone}
 use Rattle.std.proofs.lemmas.Bool.{cases_eq, cases_lt, cases_Bool}
 use Rattle.rcpsp_model.specs.Project.{Project, IsJob, IsAcyclic, job_count}
 use Rattle.rcpsp_model.specs.Chain.{IsTail}
-use Rattle.rcpsp_model.proofs.TailLemmas.{has_tail_law}
+use Rattle.rcpsp_model.proofs.Tails.{has_tail_law}
 use Rattle.project_net.specs.Order.{IsFree}
 use Rattle.serial_scheme.specs.Priority.{HasLessTail, HasNoMoreTail, IsMoreUrgent, IsMostUrgent}
 

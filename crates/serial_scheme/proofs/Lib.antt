@@ -1,5 +1,5 @@
 pub mod ModeSteps
 pub mod JobSteps
 pub mod EntrySteps
-pub mod PlacedLemmas
+pub mod PlacedInTurn
 pub mod PlanFacts

@@ -12,16 +12,16 @@ use Rattle.rcpsp_model.specs.Claim.{NoneIsFeasible}
 use Rattle.rcpsp_model.proofs.Lists.{In, In-push, In-from_Contains, All-from_In, In-All}
 use Rattle.rcpsp_model.proofs.Entries.{entry_of}
 use Rattle.rcpsp_model.proofs.Usage.{finish-le-end, end-le}
-use Rattle.rcpsp_model.proofs.FrontLemmas.{in_turn}
-use Rattle.rcpsp_model.proofs.PlanLemmas.{plan-entries, plan_law, no_mode_law}
-use Rattle.rcpsp_model.proofs.OnePlanLemmas.{one_plan_law}
+use Rattle.rcpsp_model.proofs.Fronts.{in_turn}
+use Rattle.rcpsp_model.proofs.PlansFeasible.{plan-entries, plan_law, no_mode_law}
+use Rattle.rcpsp_model.proofs.OnePlan.{one_plan_law}
 use Rattle.rcpsp_model.proofs.Merged.{same-placings}
-use Rattle.rcpsp_model.proofs.CalendarLemmas.{calm_law}
+use Rattle.rcpsp_model.proofs.Calendars.{calm_law}
 use Rattle.serial_scheme.specs.declared.mode_rule.ModeRule.{ModeRule}
 use Rattle.serial_scheme.specs.declared.mode_rule.ModeRule.TheVariants.{Shortest, Cheapest}
 use Rattle.serial_scheme.specs.Rules.{HasMode, SomeHasNoMode}
 use Rattle.project_net.proofs.PlaceSteps.{in_turn-weaker}
-use Rattle.serial_scheme.proofs.PlacedLemmas.{as-placed, length-placing, scheduled-placing, ends-soon}
+use Rattle.serial_scheme.proofs.PlacedInTurn.{as-placed, length-placing, scheduled-placing, ends-soon}
 
 pub has_mode-is : (rule : ModeRule) (P : Project) (j m : ℕ) → HasMode rule P j m → IsMode P j m × IsExecutable P j m
 has_mode-is Shortest P j m h = (h.mode, h.executable)

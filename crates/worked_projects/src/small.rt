@@ -45,6 +45,19 @@ pub const AFTER_A_BREAK: WorkedProject = WorkedProject {
     }],
 };
 
+/// Job 2 has a longer mode that asks for as much: the least duration is 5.
+pub const LONGER_MODE: WorkedProject = WorkedProject {
+    jobs: &[
+        FIRST_OF_TWO,
+        (&[(3, &[2], &[]), (4, &[2], &[])], &[4]),
+        (&[(2, &[2], &[])], &[4]),
+        LAST,
+    ],
+    capacities: &[3],
+    budgets: &[],
+    calendar: &[],
+};
+
 /// Job 2 asks for more than there ever is: no schedule is feasible.
 pub const ASKS_TOO_MUCH: WorkedProject = WorkedProject {
     jobs: &[

@@ -1,5 +1,5 @@
-use Rattle.log_truth.proofs.RefusalLemmas.{good_law, no_refusal_law, one_refusal_law}
-use Rattle.log_truth.proofs.FoundLemmas.{either_law}
+use Rattle.log_truth.proofs.OneRefusal.{good_law, no_refusal_law, one_refusal_law}
+use Rattle.log_truth.proofs.FirstFaults.{either_law}
 use Rattle.log_truth.proofs.refusal.first_refusal.Goals as goal
 
 pub returns-clause-good : goal.returns-clause-good

@@ -1,4 +1,4 @@
-use Rattle.log_truth.proofs.RefusalLemmas.{three_rules_law}
+use Rattle.log_truth.proofs.OneRefusal.{three_rules_law}
 use Rattle.log_truth.proofs.walk.line_rules.Goals as goal
 
 pub returns : goal.returns

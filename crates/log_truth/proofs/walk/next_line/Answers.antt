@@ -1,4 +1,4 @@
-use Rattle.log_truth.proofs.WalkLemmas.{next_law, next_node_law, break_law, surplus_law, missing_law}
+use Rattle.log_truth.proofs.NextLines.{next_law, next_node_law, break_law, surplus_law, missing_law}
 use Rattle.log_truth.proofs.walk.next_line.Goals as goal
 
 pub returns-clause-good : goal.returns-clause-good

@@ -1,6 +1,6 @@
 use Rattle.std.proofs.Common.{◌≤◌, arith, sym, subst, ◌∙◌}
 use Rattle.std.specs.Prelude.{Option}
-use Rattle.rcpsp_model.proofs.FrontLemmas.{front-end, last-le-end}
+use Rattle.rcpsp_model.proofs.Fronts.{front-end, last-le-end}
 use Rattle.precedence_tree.specs.declared.active.Active.{Active}
 use Rattle.precedence_tree.specs.Active.{AreActive, IsNamed}
 use Rattle.precedence_tree.specs.Node.{joined}

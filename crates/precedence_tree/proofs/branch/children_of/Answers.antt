@@ -3,7 +3,7 @@ use Rattle.std.proofs.lemmas.Bool.{both_ways}
 use Rattle.sched_base.specs.JobSet.{member}
 use Rattle.rcpsp_model.specs.declared.parts.Child.{Child}
 use Rattle.rcpsp_model.specs.Tree.{AreChildren, IsEligible}
-use Rattle.rcpsp_model.proofs.ChildLemmas.{list_exchange_law}
+use Rattle.rcpsp_model.proofs.ChildLists.{list_exchange_law}
 use Rattle.precedence_tree.specs.declared.base.Base.{Base}
 use Rattle.precedence_tree.specs.Node.{NodeState}
 use Rattle.precedence_tree.specs.Children.{child_fronts}

@@ -1,6 +1,6 @@
 use Rattle.std.proofs.Common.{◌≡◌, ℕ, ◌+◌, ◌-◌, arith, subst}
 use Rattle.rcpsp_model.specs.Project.{IsMode}
-use Rattle.project_net.proofs.EndLemmas.{mode-at, start-at}
+use Rattle.project_net.proofs.ScheduleEnds.{mode-at, start-at}
 use Rattle.project_net.proofs.feasible.entry_of.Goals as goal
 
 pub returns-clause-mode : goal.returns-clause-mode

@@ -1,7 +1,7 @@
 use Rattle.std.proofs.Common.{sym, ◌∙◌}
 use Rattle.std.proofs.lemmas.Bool.{both_ways}
 use Rattle.project_net.specs.Feasible.{IsPlaced}
-use Rattle.project_net.proofs.FeasibleLemmas.{feasible-from, order-of, capacities-of}
+use Rattle.project_net.proofs.FeasibleParts.{feasible-from, order-of, capacities-of}
 use Rattle.project_net.proofs.feasible.is_feasible.Goals as goal
 use Rattle.project_net.proofs.feasible.is_feasible.Goals.{then-keeps_budgets, else-keeps_budgets}
 

@@ -1,5 +1,5 @@
 use Rattle.std.proofs.lemmas.Bool.{both_ways}
-use Rattle.project_net.proofs.FeasibleLemmas.{keeps-capacity, begins-fit, starts-fit}
+use Rattle.project_net.proofs.FeasibleParts.{keeps-capacity, begins-fit, starts-fit}
 use Rattle.project_net.proofs.feasible.keeps_capacity.Goals as goal
 
 pub returns-then-fits_at_begins : goal.returns-then-fits_at_begins

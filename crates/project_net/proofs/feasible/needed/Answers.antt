@@ -2,7 +2,7 @@ use Rattle.std.proofs.Common.{◌+◌, ◌∙◌, ap, arith}
 use Rattle.rcpsp_model.specs.declared.parts.Entry.{Entry}
 use Rattle.rcpsp_model.specs.Project.{need}
 use Rattle.rcpsp_model.specs.Schedule.{entries}
-use Rattle.project_net.proofs.FeasibleLemmas.{need_of, used-total, sum-more, sum-all}
+use Rattle.project_net.proofs.FeasibleParts.{need_of, used-total, sum-more, sum-all}
 use Rattle.project_net.proofs.feasible.needed.Goals as goal
 
 pub loop-done-init : goal.loop-done-init

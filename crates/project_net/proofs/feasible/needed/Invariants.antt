@@ -1,7 +1,7 @@
 use Rattle.std.proofs.Common.{◌≡◌, ◌+◌, ◌*◌, ◌≤◌, drop}
 use Rattle.rcpsp_model.specs.Schedule.{entries, entries_from, used}
 use Rattle.rcpsp_model.proofs.Lists.{total}
-use Rattle.project_net.proofs.FeasibleLemmas.{need_of}
+use Rattle.project_net.proofs.FeasibleParts.{need_of}
 use Rattle.project_net.proofs.feasible.needed.Given as goal
 
 abbrev pub invariant-loop-done : goal.invariant-loop-done

@@ -1,7 +1,7 @@
 use Rattle.std.proofs.Common.{◌∙◌, ap, arith}
 use Rattle.rcpsp_model.specs.Schedule.{entries}
 use Rattle.rcpsp_model.proofs.Usage.{load, usage-total}
-use Rattle.project_net.proofs.FeasibleLemmas.{sum-more, sum-all, usage-one}
+use Rattle.project_net.proofs.FeasibleParts.{sum-more, sum-all, usage-one}
 use Rattle.project_net.proofs.feasible.usage_at.Goals as goal
 
 pub loop-done-init : goal.loop-done-init

@@ -1,6 +1,6 @@
 use Rattle.std.proofs.Common.{◌-◌, arith, refl, sym, ◌∙◌}
 use Rattle.std.proofs.lemmas.Bool.{false≢true}
-use Rattle.project_net.proofs.RowLemmas.{in-order-at, in-order-from}
+use Rattle.project_net.proofs.CalendarRows.{in-order-at, in-order-from}
 use Rattle.project_net.proofs.refusal.are_in_order.Goals as goal
 
 pub returns-then-not-may_precede : goal.returns-then-not-may_precede

@@ -1,6 +1,6 @@
 use Rattle.std.proofs.Common.{ℕ, suc, ◌<◌, get_or}
 use Rattle.rcpsp_model.specs.Project.{MayPrecede}
-use Rattle.project_net.proofs.RowLemmas.{no_row}
+use Rattle.project_net.proofs.CalendarRows.{no_row}
 use Rattle.project_net.proofs.refusal.are_in_order.Given as goal
 
 abbrev pub invariant-loop-place : goal.invariant-loop-place

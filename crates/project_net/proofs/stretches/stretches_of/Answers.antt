@@ -1,7 +1,7 @@
 use Rattle.std.proofs.Common.{arith, ap, List, length, get_or}
 use Rattle.rcpsp_model.specs.declared.parts.CalRow.{CalRow}
-use Rattle.project_net.proofs.RowLemmas.{no_row}
-use Rattle.project_net.proofs.StretchLemmas.{row-more, end-more}
+use Rattle.project_net.proofs.CalendarRows.{no_row}
+use Rattle.project_net.proofs.StretchSteps.{row-more, end-more}
 use Rattle.project_net.proofs.stretches.stretches_of.Goals as goal
 
 pub loop-row-preserved : goal.loop-row-preserved

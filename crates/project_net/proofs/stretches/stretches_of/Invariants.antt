@@ -1,4 +1,4 @@
-use Rattle.project_net.proofs.StretchLemmas.{HasStretches}
+use Rattle.project_net.proofs.StretchSteps.{HasStretches}
 use Rattle.project_net.proofs.stretches.stretches_of.Given as goal
 
 abbrev pub invariant-loop-row : goal.invariant-loop-row

@@ -1,4 +1,4 @@
-use Rattle.proof_log.proofs.ReportLemmas.{one_report_law}
+use Rattle.proof_log.proofs.OneReport.{one_report_law}
 use Rattle.proof_log.proofs.laws.one_report.Goals as goal
 
 pub returns : goal.returns

@@ -1,4 +1,4 @@
-use Rattle.proof_log.proofs.LineReaderLemmas.{line_len-position}
+use Rattle.proof_log.proofs.FedLines.{line_len-position}
 use Rattle.proof_log.proofs.line_reader.line_len.Goals as goal
 
 pub returns-clause-value : goal.returns-clause-value

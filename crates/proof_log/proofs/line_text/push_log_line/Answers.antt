@@ -1,7 +1,7 @@
 use Rattle.std.proofs.Common.{arith}
 use Rattle.std.proofs.lemmas.Grind.{common_steps}
 use Rattle.proof_log.specs.Line.{number_word, log_line_words}
-use Rattle.proof_log.proofs.LineLemmas.{join-fate}
+use Rattle.proof_log.proofs.JoinedWords.{join-fate}
 use Rattle.proof_log.proofs.line_text.push_log_line.Goals as goal
 
 pub returns-clause-items : goal.returns-clause-items

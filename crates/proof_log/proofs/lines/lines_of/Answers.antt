@@ -1,7 +1,7 @@
 use Rattle.std.proofs.Common.{◌∙◌, ◌++◌, ℕ, List, Vec, Global, sym, ap, map, flat_map}
 use Rattle.std.proofs.lemmas.List.{append-nil, drop_all}
 use Rattle.proof_log.specs.Lines.{lines_left}
-use Rattle.proof_log.proofs.LineReaderLemmas.{nothing_found}
+use Rattle.proof_log.proofs.FedLines.{nothing_found}
 use Rattle.proof_log.proofs.lines.lines_of.Goals as goal
 
 pub returns : goal.returns

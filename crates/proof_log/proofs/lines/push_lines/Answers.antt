@@ -1,7 +1,7 @@
 use Rattle.std.proofs.Common.{◌≡◌, inl, inr, ◌-◌, ◌+◌, ◌∙◌, ◌++◌, ◌∷◌, [], ℕ, List, Vec, Global, sym, ap, arith, map, drop, take, length, length-drop}
 use Rattle.std.proofs.lemmas.List.{take_all, map-append}
 use Rattle.proof_log.specs.Lines.{ReaderState, lines_left}
-use Rattle.proof_log.proofs.LineReaderLemmas.{some_taken, line_joins, piece_ends, nothing_left}
+use Rattle.proof_log.proofs.FedLines.{some_taken, line_joins, piece_ends, nothing_left}
 use Rattle.proof_log.proofs.lines.push_lines.Goals as goal
 
 whole : (piece : List ℕ) (at : ℕ) → take (length piece - at) (drop at piece) ≡ drop at piece

@@ -3,7 +3,7 @@ use Rattle.std.specs.Prelude.{IfSome}
 use Rattle.proof_log.specs.declared.line.ReportLine.{ReportLine}
 use Rattle.proof_log.specs.Line.{IsLine, line_text}
 use Rattle.proof_log.specs.Reading.{line_in, words_in}
-use Rattle.proof_log.proofs.TextLemmas.{text_again, text_found}
+use Rattle.proof_log.proofs.LinesAgain.{text_again, text_found}
 use Rattle.proof_log.proofs.parsing.parse_line.Goals as goal
 
 found_in : (r : Option ReportLine) (bytes : List ℕ) → r ≡ line_in (words_in bytes) → IfSome r (λ line. IsLine line × (bytes ≡ line_text line))

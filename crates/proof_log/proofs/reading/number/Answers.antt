@@ -1,6 +1,6 @@
 use Rattle.std.proofs.Common.{◌≡◌, ◌+◌, ◌-◌, ◌*◌, ◌≤◌, ◌∙◌, ℕ, sym, ap, arith, drop, get_or, length}
 use Rattle.proof_log.specs.Reading.{value_after}
-use Rattle.proof_log.proofs.NumberLemmas.{short, next_value, power, next_power, digit_range, other_byte, digit_more, no_number, no_digits, whole_number, digits_end, value_end}
+use Rattle.proof_log.proofs.Digits.{short, next_value, power, next_power, digit_range, other_byte, digit_more, no_number, no_digits, whole_number, digits_end, value_end}
 use Rattle.proof_log.proofs.reading.number.Goals as goal
 
 pub returns-then-not-may_be_number : goal.returns-then-not-may_be_number

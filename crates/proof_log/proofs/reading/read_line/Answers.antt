@@ -1,4 +1,4 @@
-use Rattle.proof_log.proofs.SplitLemmas.{no_sixth}
+use Rattle.proof_log.proofs.CutWords.{no_sixth}
 use Rattle.proof_log.proofs.reading.read_line.Goals as goal
 
 pub returns-in-Some-rest-3 : goal.returns-in-Some-rest-3

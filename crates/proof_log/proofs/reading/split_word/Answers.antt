@@ -1,5 +1,5 @@
 use Rattle.std.proofs.Common.{sym}
-use Rattle.proof_log.proofs.SplitLemmas.{one_word, first_word}
+use Rattle.proof_log.proofs.CutWords.{one_word, first_word}
 use Rattle.proof_log.proofs.reading.split_word.Goals as goal
 
 pub returns-in-None : goal.returns-in-None

@@ -1,4 +1,4 @@
-use Rattle.proof_log.proofs.WritingLemmas.{nothing, gains_nothing}
+use Rattle.proof_log.proofs.WrittenParts.{nothing, gains_nothing}
 use Rattle.proof_log.proofs.writing.write_best.Goals as goal
 
 pub returns-in-None-clause-whole : goal.returns-in-None-clause-whole

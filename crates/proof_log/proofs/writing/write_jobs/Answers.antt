@@ -3,7 +3,7 @@ use Rattle.std.proofs.lemmas.List.{drop_all}
 use Rattle.rcpsp_model.specs.declared.parts.Placing.{Placing}
 use Rattle.proof_log.specs.declared.line.ReportLine.TheVariants.{Job}
 use Rattle.proof_log.specs.Text.{job_lines}
-use Rattle.proof_log.proofs.WritingLemmas.{Writes, part_written, part_failed, all_written, jobs_from, next_job}
+use Rattle.proof_log.proofs.WrittenParts.{Writes, part_written, part_failed, all_written, jobs_from, next_job}
 use Rattle.proof_log.proofs.writing.write_jobs.Goals as goal
 
 pub returns-in_err-write_line-clause-front : goal.returns-in_err-write_line-clause-front

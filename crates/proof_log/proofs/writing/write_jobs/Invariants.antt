@@ -1,6 +1,6 @@
 use Rattle.std.proofs.Common.{◌≤◌, ◌+◌, drop}
 use Rattle.proof_log.specs.Text.{job_lines}
-use Rattle.proof_log.proofs.WritingLemmas.{Writes, jobs_from}
+use Rattle.proof_log.proofs.WrittenParts.{Writes, jobs_from}
 use Rattle.proof_log.proofs.writing.write_jobs.Given as goal
 
 abbrev pub invariant-loop-index : goal.invariant-loop-index

@@ -1,7 +1,7 @@
 use Rattle.std.proofs.Common.{[], ◌∷◌, ◌+◌, drop, get_or, arith, rules, subst}
 use Rattle.std.proofs.lemmas.List.{drop_all, drop_more}
 use Rattle.proof_log.specs.declared.line.ReportLine.TheVariants.{Title}
-use Rattle.proof_log.proofs.WritingLemmas.{Writes, part_written, part_failed, all_written}
+use Rattle.proof_log.proofs.WrittenParts.{Writes, part_written, part_failed, all_written}
 use Rattle.proof_log.proofs.writing.write_lines.Goals as goal
 
 pub returns-in_err-write_line-clause-front : goal.returns-in_err-write_line-clause-front

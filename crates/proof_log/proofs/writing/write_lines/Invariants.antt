@@ -1,5 +1,5 @@
 use Rattle.std.proofs.Common.{◌≤◌, drop}
-use Rattle.proof_log.proofs.WritingLemmas.{Writes}
+use Rattle.proof_log.proofs.WrittenParts.{Writes}
 use Rattle.proof_log.proofs.writing.write_lines.Given as goal
 
 abbrev pub invariant-loop-line : goal.invariant-loop-line

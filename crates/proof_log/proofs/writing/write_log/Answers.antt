@@ -1,7 +1,7 @@
 use Rattle.std.proofs.Common.{[], ◌∷◌, rules}
 use Rattle.proof_log.specs.declared.line.ReportLine.TheVariants.{LogYes}
 use Rattle.proof_log.specs.Text.{log_lines}
-use Rattle.proof_log.proofs.WritingLemmas.{none_written, part_written, part_failed, last_part, all_written}
+use Rattle.proof_log.proofs.WrittenParts.{none_written, part_written, part_failed, last_part, all_written}
 use Rattle.proof_log.proofs.writing.write_log.Goals as goal
 
 pub returns-in_err-write_line-in-Some-clause-front : goal.returns-in_err-write_line-in-Some-clause-front

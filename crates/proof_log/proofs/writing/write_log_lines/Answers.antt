@@ -3,7 +3,7 @@ use Rattle.std.proofs.lemmas.List.{drop_all}
 use Rattle.proof_log.specs.declared.line.ReportLine.TheVariants.{Log}
 use Rattle.proof_log.specs.declared.report.LogLine.{LogLine}
 use Rattle.proof_log.specs.Text.{log_lines}
-use Rattle.proof_log.proofs.WritingLemmas.{Writes, part_written, part_failed, all_written, next_log_line}
+use Rattle.proof_log.proofs.WrittenParts.{Writes, part_written, part_failed, all_written, next_log_line}
 use Rattle.proof_log.proofs.writing.write_log_lines.Goals as goal
 
 pub returns-in_err-write_line-clause-front : goal.returns-in_err-write_line-clause-front

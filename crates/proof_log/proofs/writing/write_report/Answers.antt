@@ -3,7 +3,7 @@ use Rattle.sched_base.specs.Outside.{Gains}
 use Rattle.proof_log.specs.declared.line.ReportLine.TheVariants.{End}
 use Rattle.proof_log.specs.declared.report.Report.{Report}
 use Rattle.proof_log.specs.Text.{verdict_lines, best_part, log_part, lines_of, text_of_lines}
-use Rattle.proof_log.proofs.WritingLemmas.{Writes, none_written, part_written, part_failed, all_written}
+use Rattle.proof_log.proofs.WrittenParts.{Writes, none_written, part_written, part_failed, all_written}
 use Rattle.proof_log.proofs.writing.write_report.Goals as goal
 
 verdict_written : (before now : Option (List ℕ)) (r : Report) → Gains before now (text_of_lines (verdict_lines r.verdict)) → Writes before now (lines_of r) (best_part r.best ++ (log_part r.log ++ End ∷ []))

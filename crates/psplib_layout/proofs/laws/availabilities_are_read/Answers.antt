@@ -1,4 +1,4 @@
-use Rattle.psplib_layout.proofs.LayoutLemmas.{availabilities_found, availabilities_again}
+use Rattle.psplib_layout.proofs.PartsRead.{availabilities_found, availabilities_again}
 use Rattle.psplib_layout.proofs.laws.availabilities_are_read.Goals as goal
 
 pub returns : goal.returns

@@ -1,4 +1,4 @@
-use Rattle.psplib_layout.proofs.LayoutLemmas.{calendar_found_in, calendar_again_in}
+use Rattle.psplib_layout.proofs.PartsRead.{calendar_found_in, calendar_again_in}
 use Rattle.psplib_layout.proofs.laws.calendar_is_read.Goals as goal
 
 pub returns : goal.returns

@@ -1,4 +1,4 @@
-use Rattle.psplib_layout.proofs.TextLemmas.{content_found, content_again}
+use Rattle.psplib_layout.proofs.OneContent.{content_found, content_again}
 use Rattle.psplib_layout.proofs.laws.content_is_read.Goals as goal
 
 pub returns : goal.returns

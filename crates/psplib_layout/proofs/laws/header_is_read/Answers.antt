@@ -1,4 +1,4 @@
-use Rattle.psplib_layout.proofs.HeaderLemmas.{header_found, header_again}
+use Rattle.psplib_layout.proofs.Headers.{header_found, header_again}
 use Rattle.psplib_layout.proofs.laws.header_is_read.Goals as goal
 
 pub returns : goal.returns

@@ -1,4 +1,4 @@
-use Rattle.psplib_layout.proofs.LayoutLemmas.{layout_found, layout_again}
+use Rattle.psplib_layout.proofs.PartsRead.{layout_found, layout_again}
 use Rattle.psplib_layout.proofs.laws.layout_is_read.Goals as goal
 
 pub returns : goal.returns

@@ -1,4 +1,4 @@
-use Rattle.psplib_layout.proofs.LayoutLemmas.{precedence_found, precedence_again}
+use Rattle.psplib_layout.proofs.PartsRead.{precedence_found, precedence_again}
 use Rattle.psplib_layout.proofs.laws.precedence_is_read.Goals as goal
 
 pub returns : goal.returns

@@ -1,4 +1,4 @@
-use Rattle.psplib_layout.proofs.LayoutLemmas.{requests_found, requests_again}
+use Rattle.psplib_layout.proofs.PartsRead.{requests_found, requests_again}
 use Rattle.psplib_layout.proofs.laws.requests_are_read.Goals as goal
 
 pub returns : goal.returns

@@ -1,7 +1,7 @@
 use Rattle.std.proofs.Common.{subst}
 use Rattle.std.proofs.lemmas.Result.{err_from_is_err_and}
 use Rattle.psplib_layout.specs.Place.{Gives}
-use Rattle.psplib_layout.proofs.TextLemmas.{short_text, refused_as_long}
+use Rattle.psplib_layout.proofs.OneContent.{short_text, refused_as_long}
 use Rattle.psplib_layout.proofs.text.read_whole.Goals as goal
 
 pub returns-in_err-source : goal.returns-in_err-source

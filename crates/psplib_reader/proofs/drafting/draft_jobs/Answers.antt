@@ -1,7 +1,7 @@
 use Rattle.std.proofs.Common.{◌<◌, length, ap, sym, ◌∙◌, arith, rules}
 use Rattle.std.proofs.lemmas.Iterator.Consumers.{YieldsList-turn}
 use Rattle.std.proofs.lemmas.Iterator.Adapters.{YieldsList-from_vec}
-use Rattle.psplib_reader.proofs.DraftLemmas.{drafted_none, drafted_more, length_more}
+use Rattle.psplib_reader.proofs.DraftedJobs.{drafted_none, drafted_more, length_more}
 use Rattle.psplib_reader.proofs.drafting.draft_jobs.Goals as goal
 
 pub loop-of_job-init : goal.loop-of_job-init

@@ -1,6 +1,6 @@
 use Rattle.std.proofs.Common.{ap, sym, subst, ◌∙◌}
 use Rattle.project_net.specs.Draft.{project_of, IsWithinLimits}
-use Rattle.psplib_reader.proofs.LimitLemmas.{draft_is, project_is, limits_are}
+use Rattle.psplib_reader.proofs.DraftLimits.{draft_is, project_is, limits_are}
 use Rattle.psplib_reader.proofs.drafting.draft_of.Goals as goal
 
 pub returns-clause-project : goal.returns-clause-project

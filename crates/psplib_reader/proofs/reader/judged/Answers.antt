@@ -2,8 +2,8 @@ use Rattle.std.proofs.Common.{subst, inr}
 use Rattle.std.proofs.lemmas.Result.{err_from_is_err_and}
 use Rattle.psplib_layout.specs.Place.{IsRefused}
 use Rattle.psplib_layout.specs.Text.{HasCycle}
-use Rattle.psplib_layout.proofs.TextLemmas.{refused_as_long, short_text}
-use Rattle.psplib_reader.proofs.CycleLemmas.{IsRead, lowest_by, job_is, within_read, reads_from, cycle_first, line_is_read, refused_first, exit_is}
+use Rattle.psplib_layout.proofs.OneContent.{refused_as_long, short_text}
+use Rattle.psplib_reader.proofs.CycleRefused.{IsRead, lowest_by, job_is, within_read, reads_from, cycle_first, line_is_read, refused_first, exit_is}
 use Rattle.psplib_reader.proofs.reader.judged.Goals as goal
 
 pub returns-in_err-source-clause-refused : goal.returns-in_err-source-clause-refused

@@ -1,5 +1,5 @@
 use Rattle.rcpsp_model.proofs.plan.placed_in_turn.Goals as goal
-use Rattle.rcpsp_model.proofs.PlanLemmas.{plan_law}
+use Rattle.rcpsp_model.proofs.PlansFeasible.{plan_law}
 
 pub returns : goal.returns
 returns c = plan_law

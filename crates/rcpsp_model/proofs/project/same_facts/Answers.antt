@@ -1,5 +1,5 @@
 use Rattle.rcpsp_model.proofs.project.same_facts.Goals as goal
-use Rattle.rcpsp_model.proofs.SameLemmas.{same_facts_law}
+use Rattle.rcpsp_model.proofs.SameFacts.{same_facts_law}
 
 pub returns : goal.returns
 returns c = same_facts_law

@@ -1,6 +1,6 @@
 use Rattle.std.proofs.Common.{arith, ℕ, sym, ap, ◌∙◌, string_bytes, String, Vec, Global}
 use Rattle.std.specs.Str.{bytes_eq}
-use Rattle.sched_base.proofs.TextLemmas.{text_here, text_after}
+use Rattle.sched_base.proofs.NamedTexts.{text_here, text_after}
 use Rattle.sched_base.proofs.texts.place_of.Goals as goal
 
 pub returns-then-eq-clause-has : goal.returns-then-eq-clause-has

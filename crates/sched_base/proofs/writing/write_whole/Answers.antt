@@ -1,5 +1,5 @@
 use Rattle.std.proofs.Common.{rules}
-use Rattle.sched_base.proofs.GainedLemmas.{gains_next, gains_front}
+use Rattle.sched_base.proofs.GainedInTurn.{gains_next, gains_front}
 use Rattle.sched_base.proofs.writing.write_whole.Goals as goal
 
 pub returns-in_err-written-clause-front : goal.returns-in_err-written-clause-front

@@ -1,7 +1,7 @@
 use Rattle.std.proofs.Common.{arith, subst, ◌∙◌}
 use Rattle.schedule_cli.specs.declared.reading.TheConstants.{MOST_READ}
 use Rattle.schedule_cli.specs.Answer.{IsSolutionOf}
-use Rattle.schedule_cli.proofs.FrontLemmas.{told_solution}
+use Rattle.schedule_cli.proofs.TextFronts.{told_solution}
 use Rattle.schedule_cli.proofs.run.answer_to.Goals as goal
 
 pub returns-in_ok-solution_of-in-Ok-clause-answer : goal.returns-in_ok-solution_of-in-Ok-clause-answer

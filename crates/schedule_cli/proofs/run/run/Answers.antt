@@ -1,7 +1,7 @@
 use Rattle.std.proofs.Common.{◌≡◌, map, string_bytes}
 use Rattle.schedule_cli.specs.declared.status.Status.TheVariants.{NoMemory}
 use Rattle.schedule_cli.specs.Status.{IsFaultless}
-use Rattle.schedule_cli.proofs.StatusLemmas.{told_bad_project, told_solved, told_complete}
+use Rattle.schedule_cli.proofs.StatusesTold.{told_bad_project, told_solved, told_complete}
 use Rattle.schedule_cli.proofs.run.run.Goals as goal
 
 pub returns-in-Ok-tell-clause-bad_project : goal.returns-in-Ok-tell-clause-bad_project

@@ -1,7 +1,7 @@
 use Rattle.std.specs.Prelude.{◌≤◌, ◌/◌, length, slice_index_or, vec_items, vec_capacity}
 use Rattle.std.proofs.Common.{arith}
 use Rattle.std.proofs.lemmas.List.Elements.{All-get_or, All-set}
-use Rattle.search_log.proofs.BlockLemmas.{append-in_place, block-within, next-room}
+use Rattle.search_log.proofs.BlockPlaces.{append-in_place, block-within, next-room}
 use Rattle.search_log.proofs.blocks.append_at.Goals as goal
 
 pub returns-in_err-push-clause-done : goal.returns-in_err-push-clause-done

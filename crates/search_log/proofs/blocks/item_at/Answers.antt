@@ -1,6 +1,6 @@
 use Rattle.std.proofs.Common.{◌%◌, length, sym, ap, ◌∙◌, arith}
 use Rattle.std.specs.Prelude.{vec_items, slice_index_or}
-use Rattle.search_log.proofs.BlockLemmas.{lies-in_place, in-blocks}
+use Rattle.search_log.proofs.BlockPlaces.{lies-in_place, in-blocks}
 use Rattle.search_log.proofs.blocks.item_at.Goals as goal
 
 pub bounds-blocks-place : goal.bounds-blocks-place

@@ -1,6 +1,6 @@
 use Rattle.std.specs.Prelude.{vec_items, vec_capacity}
 use Rattle.std.proofs.Common.{rules, sym, ◌∙◌, arith}
-use Rattle.search_log.proofs.BlockLemmas.{reopened, room-left, none-over, roomy-more}
+use Rattle.search_log.proofs.BlockPlaces.{reopened, room-left, none-over, roomy-more}
 use Rattle.search_log.proofs.blocks.open_block.Goals as goal
 
 pub returns-in_err-block-clause-full : goal.returns-in_err-block-clause-full

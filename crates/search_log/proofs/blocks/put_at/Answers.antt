@@ -1,7 +1,7 @@
 use Rattle.std.specs.Prelude.{◌≤◌, ◌/◌, slice_index_or, vec_items, vec_capacity}
 use Rattle.std.proofs.Common.{arith, refl}
 use Rattle.std.proofs.lemmas.List.Elements.{All-get_or, All-set}
-use Rattle.search_log.proofs.BlockLemmas.{lies-in_place, put-in_place, in-blocks}
+use Rattle.search_log.proofs.BlockPlaces.{lies-in_place, put-in_place, in-blocks}
 use Rattle.search_log.proofs.blocks.put_at.Goals as goal
 
 pub bounds-blocks-place : goal.bounds-blocks-place

@@ -1,7 +1,7 @@
 use Rattle.std.proofs.Common.{◌+◌, ℕ, subst, sym, ap, ◌∙◌, arith, Option, Some}
 use Rattle.search_log.specs.declared.row.Row.{Row}
 use Rattle.search_log.specs.Fates.{row_saying}
-use Rattle.search_log.proofs.LeftLemmas.{IsLeastBefore, least-next, least-same, least-all, other-fate}
+use Rattle.search_log.proofs.LeastOfLeft.{IsLeastBefore, least-next, least-same, least-all, other-fate}
 use Rattle.search_log.proofs.closing.least_left.Goals.{in-Left, in_default}
 use Rattle.search_log.proofs.closing.least_left.Goals as goal
 

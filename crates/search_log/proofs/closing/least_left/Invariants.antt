@@ -1,4 +1,4 @@
-use Rattle.search_log.proofs.LeftLemmas.{IsLeastBefore}
+use Rattle.search_log.proofs.LeastOfLeft.{IsLeastBefore}
 use Rattle.search_log.proofs.closing.least_left.Given as goal
 
 abbrev pub invariant-loop-place : goal.invariant-loop-place

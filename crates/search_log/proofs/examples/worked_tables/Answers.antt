@@ -1,4 +1,4 @@
-use Rattle.search_log.proofs.ExampleLemmas.{worked_tables}
+use Rattle.search_log.proofs.TablesComputed.{worked_tables}
 use Rattle.search_log.proofs.examples.worked_tables.Goals as goal
 
 pub returns : goal.returns

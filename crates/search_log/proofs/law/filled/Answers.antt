@@ -1,6 +1,6 @@
-use Rattle.search_log.proofs.FillLemmas.{fills_law}
-use Rattle.search_log.proofs.StayLemmas.{stays_law, comes_law, from_law, filled_cites_law}
-use Rattle.search_log.proofs.VerdictLemmas.{close_law}
+use Rattle.search_log.proofs.FilledRows.{fills_law}
+use Rattle.search_log.proofs.StayingRows.{stays_law, comes_law, from_law, filled_cites_law}
+use Rattle.search_log.proofs.VerdictChanges.{close_law}
 use Rattle.search_log.proofs.law.filled.Goals as goal
 
 pub returns-clause-all : goal.returns-clause-all

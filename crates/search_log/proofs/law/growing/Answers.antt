@@ -1,4 +1,4 @@
-use Rattle.search_log.proofs.GrowLemmas.{start_law, gap_law, child_rows_law, child_places_law, grow_law, gather_law}
+use Rattle.search_log.proofs.GrownTables.{start_law, gap_law, child_rows_law, child_places_law, grow_law, gather_law}
 use Rattle.search_log.proofs.law.growing.Goals as goal
 
 pub returns-clause-start : goal.returns-clause-start

@@ -1,4 +1,4 @@
-use Rattle.search_log.proofs.LeanLemmas.{lean_law}
+use Rattle.search_log.proofs.LeanRows.{lean_law}
 use Rattle.search_log.proofs.law.lean.Goals as goal
 
 pub returns : goal.returns

@@ -1,5 +1,5 @@
-use Rattle.search_log.proofs.LogLemmas.{count_law}
-use Rattle.search_log.proofs.VerdictLemmas.{log_law, report_law}
+use Rattle.search_log.proofs.ToldLogs.{count_law}
+use Rattle.search_log.proofs.VerdictChanges.{log_law, report_law}
 use Rattle.search_log.proofs.law.told_log.Goals as goal
 
 pub returns-clause-count : goal.returns-clause-count

@@ -1,6 +1,6 @@
-use Rattle.search_log.proofs.LogLemmas.{whole_law}
-use Rattle.search_log.proofs.RoomLemmas.{room_law}
-use Rattle.search_log.proofs.ParentLemmas.{one_front_law, parent_law}
+use Rattle.search_log.proofs.ToldLogs.{whole_law}
+use Rattle.search_log.proofs.FewRows.{room_law}
+use Rattle.search_log.proofs.OneParent.{one_front_law, parent_law}
 use Rattle.search_log.proofs.law.whole.Goals as goal
 
 pub returns-clause-account : goal.returns-clause-account

@@ -2,8 +2,8 @@ use Rattle.std.proofs.Common.{◌≡◌, ◌<◌, ◌∙◌, ℕ, List, length, 
 use Rattle.search_log.specs.declared.row.Row.{Row}
 use Rattle.search_log.specs.Table.{IsWhole, IsPreorder}
 use Rattle.search_log.specs.Told.{AreNumbered, Tells}
-use Rattle.search_log.proofs.WalkLemmas.{order-length}
-use Rattle.search_log.proofs.NumberLemmas.{order-inside}
+use Rattle.search_log.proofs.PassedPlaces.{order-length}
+use Rattle.search_log.proofs.PlaceNumbers.{order-inside}
 use Rattle.search_log.proofs.telling.log_of.Goals as goal
 
 -- the places lie in the table

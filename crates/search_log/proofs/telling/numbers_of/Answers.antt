@@ -1,6 +1,6 @@
 use Rattle.std.proofs.Common.{◌+◌, ◌<◌, length, refl, arith, length-set, ◌∙◌}
 use Rattle.std.proofs.lemmas.List.Elements.{All-get_or}
-use Rattle.search_log.proofs.NumberLemmas.{numbers-more, all-numbered}
+use Rattle.search_log.proofs.PlaceNumbers.{numbers-more, all-numbered}
 use Rattle.search_log.proofs.telling.numbers_of.Goals as goal
 
 pub loop-i-preserved : goal.loop-i-preserved

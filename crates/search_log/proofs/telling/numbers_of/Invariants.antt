@@ -1,5 +1,5 @@
 use Rattle.std.proofs.Common.{◌≡◌, length}
-use Rattle.search_log.proofs.NumberLemmas.{HasNumbers}
+use Rattle.search_log.proofs.PlaceNumbers.{HasNumbers}
 use Rattle.search_log.proofs.telling.numbers_of.Given as goal
 
 abbrev pub invariant-loop-i : goal.invariant-loop-i

@@ -1,5 +1,5 @@
 use Rattle.std.proofs.Common.{◌≡◌, subst, sym, List, length, ◌++◌, ◌∷◌, [], ℕ, arith, ap, length-append}
-use Rattle.search_log.proofs.SpanLemmas.{IsUnderway, next-place, underway-next}
+use Rattle.search_log.proofs.WalkSpans.{IsUnderway, next-place, underway-next}
 use Rattle.search_log.proofs.walk.preorder.Goals as goal
 
 pub pass-requires-clause-within : goal.pass-requires-clause-within

@@ -1,5 +1,5 @@
 use Rattle.std.proofs.Common.{◌-◌, length}
-use Rattle.search_log.proofs.SpanLemmas.{IsUnderway}
+use Rattle.search_log.proofs.WalkSpans.{IsUnderway}
 use Rattle.search_log.proofs.walk.preorder.Given as goal
 
 abbrev pub invariant-loop-span : goal.invariant-loop-span

@@ -1,6 +1,6 @@
 use Rattle.std.proofs.Common.{◌∙◌, ap}
 use Rattle.search_log.specs.Walk.{places_of}
-use Rattle.search_log.proofs.SpanLemmas.{places-last}
+use Rattle.search_log.proofs.WalkSpans.{places-last}
 use Rattle.search_log.proofs.walk.push_span.Goals as goal
 
 pub returns-in_ok-push-clause-places : goal.returns-in_ok-push-clause-places

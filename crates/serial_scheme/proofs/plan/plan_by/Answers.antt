@@ -6,7 +6,7 @@ use Rattle.rcpsp_model.specs.Plan.{IsSerialPlan}
 use Rattle.project_net.specs.Placings.{HaveJobsOnce}
 use Rattle.profiles.specs.Placed.{Placed}
 use Rattle.serial_scheme.specs.Rules.{HasMode, SomeHasNoMode}
-use Rattle.serial_scheme.proofs.PlacedLemmas.{length-placing, scheduled-of, scheduled-once, scheduled-placing}
+use Rattle.serial_scheme.proofs.PlacedInTurn.{length-placing, scheduled-of, scheduled-once, scheduled-placing}
 use Rattle.serial_scheme.proofs.PlanFacts.{some-case, none-case, no_plan-without_mode, no_plan-over_budget, infeasible-without_mode, plan-by}
 use Rattle.serial_scheme.proofs.plan.plan_by.Goals as goal
 

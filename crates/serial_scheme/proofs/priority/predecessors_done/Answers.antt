@@ -1,7 +1,8 @@
 use Rattle.std.proofs.Common.{◌≡◌, ◌+◌, arith, sym, ◌∙◌, get_or}
 use Rattle.rcpsp_model.specs.Project.{is_before}
 use Rattle.rcpsp_model.specs.Schedule.{IsOf}
-use Rattle.serial_scheme.proofs.EntrySteps.{done-more, done-same, no_entry, max_is}
+use Rattle.rcpsp_model.proofs.Fronts.{no_entry}
+use Rattle.serial_scheme.proofs.EntrySteps.{done-more, done-same, max_is}
 use Rattle.serial_scheme.proofs.priority.predecessors_done.Goals as goal
 use Rattle.serial_scheme.proofs.priority.predecessors_done.Goals.{then-has, else-has}
 

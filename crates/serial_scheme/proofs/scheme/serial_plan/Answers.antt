@@ -3,7 +3,7 @@ use Rattle.rcpsp_model.specs.declared.parts.Entry.{Entry}
 use Rattle.rcpsp_model.specs.Schedule.{AreOf}
 use Rattle.rcpsp_model.specs.Tree.{entry_at}
 use Rattle.serial_scheme.specs.Rules.{HasMode}
-use Rattle.serial_scheme.proofs.PlacedLemmas.{SoFar, scheduled-of, least-from, start-limit, length-open, so_far-push, serial-from}
+use Rattle.serial_scheme.proofs.PlacedInTurn.{SoFar, scheduled-of, least-from, start-limit, length-open, so_far-push, serial-from}
 use Rattle.serial_scheme.proofs.PlanFacts.{has_mode-is}
 use Rattle.serial_scheme.proofs.scheme.serial_plan.Goals as goal
 

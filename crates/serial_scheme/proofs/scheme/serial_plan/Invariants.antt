@@ -2,7 +2,7 @@ use Rattle.std.proofs.Common.{◌-◌, length}
 use Rattle.rcpsp_model.specs.Project.{job_count}
 use Rattle.profiles.specs.Placed.{IsProfileOf}
 use Rattle.serial_scheme.specs.Rules.{HasMode}
-use Rattle.serial_scheme.proofs.PlacedLemmas.{SoFar}
+use Rattle.serial_scheme.proofs.PlacedInTurn.{SoFar}
 use Rattle.serial_scheme.proofs.scheme.serial_plan.Given as goal
 
 abbrev pub invariant-loop-job : goal.invariant-loop-job

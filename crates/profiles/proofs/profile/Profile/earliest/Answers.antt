@@ -1,6 +1,6 @@
 use Rattle.std.proofs.Common.{inl, inr, arith}
 use Rattle.std.proofs.lemmas.Bool.{cases_lt}
-use Rattle.rcpsp_model.proofs.CalendarLemmas.{calm_law}
+use Rattle.rcpsp_model.proofs.Calendars.{calm_law}
 use Rattle.profiles.proofs.Profiles.{gap-end, end-limit}
 use Rattle.profiles.proofs.profile.Profile.earliest.Goals as goal
 

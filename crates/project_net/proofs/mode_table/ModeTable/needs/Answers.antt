@@ -2,7 +2,7 @@ use Rattle.std.proofs.Common.{ℕ, ◌*◌, ◌<◌, arith, ap, sym, ◌∙◌, 
 use Rattle.std.specs.List.{slice_index_or}
 use Rattle.rcpsp_model.specs.Project.{no_mode}
 use Rattle.project_net.specs.Flat.{ModeList}
-use Rattle.project_net.proofs.FlatLemmas.{length-modes_in, needs-modes_in, row-le}
+use Rattle.project_net.proofs.FlatModes.{length-modes_in, needs-modes_in, row-le}
 use Rattle.project_net.proofs.mode_table.ModeTable.needs.Goals as goal
 
 pub row-requires : goal.row-requires

@@ -1,5 +1,5 @@
 use Rattle.std.proofs.Common.{ℕ, ◌-◌, arith, ap, List, length, get_or}
-use Rattle.project_net.proofs.NetworkLemmas.{opened-fields}
+use Rattle.project_net.proofs.FlatFacts.{opened-fields}
 use Rattle.project_net.proofs.ModePlaces.{first-places}
 use Rattle.project_net.proofs.network.Network.place.Goals as goal
 

@@ -2,7 +2,7 @@ use Rattle.std.proofs.Common.{ℕ, ◌+◌, ◌-◌, ◌≤◌, arith, ap, ◌�
 use Rattle.std.proofs.lemmas.List.Elements.{All-same}
 use Rattle.rcpsp_model.specs.declared.parts.Mode.{Mode}
 use Rattle.rcpsp_model.specs.Project.{mode_of}
-use Rattle.project_net.proofs.NetworkLemmas.{opened-fields, place-within, place-holds}
+use Rattle.project_net.proofs.FlatFacts.{opened-fields, place-within, place-holds}
 use Rattle.project_net.proofs.Limits.{mode-limits}
 use Rattle.project_net.proofs.network.Network.requests.Goals as goal
 

@@ -1,6 +1,6 @@
 use Rattle.std.proofs.Common.{◌≡◌, ◌-◌, ◌∙◌, set, rules}
 use Rattle.project_net.specs.Flat.{project_in}
-use Rattle.project_net.proofs.BudgetLemmas.{agrees-with_budget}
+use Rattle.project_net.proofs.OtherBudget.{agrees-with_budget}
 use Rattle.project_net.proofs.network.Network.with_budget.Goals as goal
 
 pub invariant_of-result : goal.invariant_of-result

@@ -1,5 +1,5 @@
 use Rattle.std.proofs.Common.{arith}
-use Rattle.rcpsp_model.proofs.CalendarLemmas.{calm_law}
+use Rattle.rcpsp_model.proofs.Calendars.{calm_law}
 use Rattle.project_net.proofs.project.Project.calm.Goals as goal
 
 pub returns-clause-limit : goal.returns-clause-limit

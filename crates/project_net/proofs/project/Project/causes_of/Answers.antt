@@ -1,6 +1,5 @@
-use Rattle.std.proofs.Common.{ℕ, List, subst, sym, ap, ◌∙◌, get_or}
+use Rattle.std.proofs.Common.{ℕ, subst, sym, ap, ◌∙◌, get_or}
 use Rattle.rcpsp_model.specs.Project.{Project}
-use Rattle.project_net.specs.declared.causes.ModeCauses.{ModeCauses}
 use Rattle.project_net.specs.Causes.{AreCauses, AreAllCauses, mode_place}
 use Rattle.project_net.proofs.project.Project.causes_of.Goals as goal
 

@@ -2,7 +2,7 @@ use Rattle.std.proofs.Common.{ℕ, ap, ◌∙◌, subst}
 use Rattle.rcpsp_model.specs.Project.{Project, job_count, renewables}
 use Rattle.rcpsp_model.specs.Modes.{least_work}
 use Rattle.project_net.specs.Least.{place_in, AreLeastWorks}
-use Rattle.project_net.proofs.TableLemmas.{table-read}
+use Rattle.project_net.proofs.FlatTables.{table-read}
 use Rattle.project_net.proofs.project.Project.least_work.Goals as goal
 
 pub returns-clause-value : goal.returns-clause-value

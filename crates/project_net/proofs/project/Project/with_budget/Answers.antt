@@ -1,6 +1,6 @@
 use Rattle.std.proofs.Common.{sym, subst}
 use Rattle.rcpsp_model.specs.Project.{IsAcyclic}
-use Rattle.project_net.proofs.BudgetLemmas.{acyclic-with_budget}
+use Rattle.project_net.proofs.OtherBudget.{acyclic-with_budget}
 use Rattle.project_net.proofs.project.Project.with_budget.Goals as goal
 
 pub prepare-requires : goal.prepare-requires

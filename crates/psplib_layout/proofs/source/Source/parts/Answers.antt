@@ -1,6 +1,6 @@
 use Rattle.psplib_layout.specs.Place.{rest_at}
-use Rattle.psplib_layout.proofs.HeaderLemmas.{header_found}
-use Rattle.psplib_layout.proofs.LayoutLemmas.{few_rows, few_modes, few_capacities, small_capacities}
+use Rattle.psplib_layout.proofs.Headers.{header_found}
+use Rattle.psplib_layout.proofs.PartsRead.{few_rows, few_modes, few_capacities, small_capacities}
 use Rattle.psplib_layout.proofs.source.Source.parts.Goals as goal
 
 pub precedence_at-requires : goal.precedence_at-requires

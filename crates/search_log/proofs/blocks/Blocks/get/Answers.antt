@@ -1,5 +1,5 @@
 use Rattle.std.proofs.Common.{arith}
-use Rattle.search_log.proofs.BlockLemmas.{length-view}
+use Rattle.search_log.proofs.BlockPlaces.{length-view}
 use Rattle.search_log.proofs.blocks.Blocks.get.Goals as goal
 
 pub item_at-requires-clause-within : goal.item_at-requires-clause-within

@@ -1,4 +1,4 @@
-use Rattle.search_log.proofs.BlockLemmas.{length-view}
+use Rattle.search_log.proofs.BlockPlaces.{length-view}
 use Rattle.search_log.proofs.blocks.Blocks.len.Goals as goal
 
 pub returns : goal.returns

@@ -1,5 +1,5 @@
 use Rattle.std.proofs.Common.{rules, ◌≡◌, ◌%◌, ◌∙◌, ℕ, ap, sym, length, arith}
-use Rattle.search_log.proofs.BlockLemmas.{length-view}
+use Rattle.search_log.proofs.BlockPlaces.{length-view}
 use Rattle.search_log.proofs.blocks.Blocks.push.Goals as goal
 
 pub overflow_add-self : goal.overflow_add-self

@@ -1,5 +1,5 @@
 use Rattle.std.proofs.Common.{arith}
-use Rattle.search_log.proofs.BlockLemmas.{length-view}
+use Rattle.search_log.proofs.BlockPlaces.{length-view}
 use Rattle.search_log.proofs.blocks.Blocks.set.Goals as goal
 
 pub put_at-requires-clause-within : goal.put_at-requires-clause-within

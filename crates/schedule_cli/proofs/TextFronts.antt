@@ -1,0 +1,31 @@
+-- What the front of a text shows of the text, where the front is longer than any project text.
+use Rattle.std.proofs.Common.{◌≡◌, ℕ, ◌<◌, inl, inr, sym, subst, ◌∙◌, arith, List, length, take, length-take, Option, None, Some, IfSome}
+use Rattle.std.proofs.lemmas.Bool.{cases_lt}
+use Rattle.std.proofs.lemmas.List.{take_all}
+use Rattle.psplib_lex.specs.declared.lexer.TheConstants.{MOST_BYTES}
+use Rattle.psplib_layout.proofs.OneContent.{long_text}
+use Rattle.sched_base.specs.Outside.{text_under}
+use Rattle.schedule_cli.specs.declared.answer.Solution.{Solution}
+use Rattle.schedule_cli.specs.declared.answer.Solution.TheVariants.{Solved, BadProject}
+use Rattle.schedule_cli.specs.Answer.{IsSolutionOf, IsSolutionUnder}
+
+long_front : (text : List ℕ) (most : ℕ) → MOST_BYTES < most → MOST_BYTES < length text → MOST_BYTES < length (take most text)
+long_front text most more long = let n = length-take most text in omega arith
+
+pub front_solution : (text : List ℕ) (most : ℕ) (solution : Solution) → MOST_BYTES < most → IsSolutionOf (take most text) solution → IsSolutionOf text solution
+front_solution text most solution more is = elim (cases_lt MOST_BYTES (length text)) [
+  | inl long ↦ of_long solution is (long_front text most more long) long
+  | inr short ↦ subst (λ bytes. IsSolutionOf bytes solution) (take_all most text (omega arith)) is
+]
+  where
+    of_long : (solution : Solution) → IsSolutionOf (take most text) solution → MOST_BYTES < length (take most text) → MOST_BYTES < length text → IsSolutionOf text solution
+    of_long (Solved report) is front long = let few = is.1.has_content.few_bytes in absurd (omega arith)
+    of_long (BadProject f) (inl e) front long = inl (long_text text long ∙ sym (long_text (take most text) front) ∙ e)
+    of_long (BadProject f) (inr cycle) front long = let few = cycle.has_content.few_bytes in absurd (omega arith)
+
+-- the same of the text under a name, or of the text that was read where none is told
+pub told_solution : (texts : Option (List (List ℕ × List ℕ))) (name other bytes : List ℕ) (most : ℕ) (solution : Solution) → MOST_BYTES < most → name ≡ other →
+    IfSome texts (λ ts. bytes ≡ take most (text_under ts name)) → IsSolutionOf bytes solution → IsSolutionUnder texts other solution
+told_solution None name other bytes most solution more same read is = (bytes, is)
+told_solution (Some ts) name other bytes most solution more same read is =
+    subst (λ n. IsSolutionOf (text_under ts n) solution) same (front_solution (text_under ts name) most solution more (subst (λ bs. IsSolutionOf bs solution) read is))
