@@ -1,9 +1,11 @@
-ghost use Rattle.std.specs.Prelude.{IfOk};
+ghost use Rattle.std.specs.Prelude.{All, IfOk};
+ghost use Rattle.precedence_tree.specs.Base.{IsBaseOf};
 ghost use Rattle.precedence_tree.specs.Node.{StandsFor};
 
 use crate::{CutRecord, Index, dominates};
 use precedence_tree::{Node, node_of};
 use project_net::Project;
+use sched_base::NoMemory;
 use std::alloc::Global;
 use std::process::Abort;
 use std::test::Fail;
@@ -116,32 +118,65 @@ fn pairs(rt: HostRuntime) -> Result<(), Fail> {
     Ok(())
 }
 
-#[test]
-fn record_of_one_project_alone(rt: HostRuntime) -> Result<(), Fail> {
-    let own = build(rt.alloc(), &NO_LENGTH)?;
-    let other = build(rt.alloc(), &TWO_IN_TURN)?;
-    let node = walk(&rt, rt.alloc(), &own, &[(3, 1, 0), (2, 1, 0), (1, 1, 0)])?;
-    let record = CutRecord::of(rt.alloc(), &own, &node)?;
-    let is_own = record.is_of(rt.alloc(), &own)?;
-    let keeps_own = record.keeps_of(rt.alloc(), &own)?;
-    let is_other = record.is_of(rt.alloc(), &other)?;
-    let keeps_other = record.keeps_of(rt.alloc(), &other)?;
+/// A record of the front, which is one of its own project alone.
+fn tell_apart(
+    rt: &impl Abort,
+    alloc: Global,
+    own: &Project,
+    other: &Project,
+    node: &Node,
+) -> Result<(), NoMemory>
+    requires { StandsFor own.now node.now }
+{
+    let record = CutRecord::of(alloc, own, node)?;
+    let is_own = record.is_of(alloc, own)?;
+    let keeps_own = record.keeps_of(alloc, own)?;
+    let is_other = record.is_of(alloc, other)?;
+    let keeps_other = record.keeps_of(alloc, other)?;
     assert!(rt; is_own && keeps_own && !is_other && !keeps_other);
     Ok(())
 }
 
 #[test]
+fn record_of_one_project_alone(rt: HostRuntime) -> Result<(), Fail> {
+    let own = build(rt.alloc(), &NO_LENGTH)?;
+    let other = build(rt.alloc(), &TWO_IN_TURN)?;
+    let node = walk(&rt, rt.alloc(), &own, &[(3, 1, 0), (2, 1, 0), (1, 1, 0)])?;
+    tell_apart(&rt, rt.alloc(), &own, &other, &node)?;
+    Ok(())
+}
+
+/// The node is found in the index, or else its record is added; gives the place of the record that dominates.
+fn find_or_add(
+    rt: &impl Abort,
+    alloc: Global,
+    project: &Project,
+    index: &mut Index,
+    node: &Node,
+) -> Result<Option<u32>, NoMemory>
+    requires node { StandsFor project.now node.now }
+    requires index { All (IsBaseOf project.now) index.old }
+    ensures { IfOk result (λ _. All (IsBaseOf project.now) index.new) }
+{
+    let found = index.find(project, node);
+    if found.first.is_some() {
+        return Ok(found.first);
+    }
+    let record = CutRecord::of(alloc, project, node)?;
+    assert!(rt; index.len() < u32::MAX);
+    assert!(rt; index.add(record, found.set).is_ok());
+    Ok(None)
+}
+
+#[test]
 fn found_in_an_index(rt: HostRuntime) -> Result<(), Fail> {
     let project = build(rt.alloc(), &TWINS)?;
-    let mut index = Index::new(rt.alloc(), &project);
     let first = walk(&rt, rt.alloc(), &project, THIRD_FIRST)?;
-    let found = index.find(&project, &first);
-    assert_eq!(rt; found.first, None);
-    let record = CutRecord::of(rt.alloc(), &project, &first)?;
-    let place = index.add(record, found.set);
-    assert_eq!(rt; place.ok(), Some(0));
     let second = walk(&rt, rt.alloc(), &project, SECOND_FIRST)?;
-    assert_eq!(rt; index.find(&project, &second).first, Some(0));
+    let mut index = Index::new(rt.alloc(), &project);
+    let none = find_or_add(&rt, rt.alloc(), &project, &mut index, &first)?;
+    let one = find_or_add(&rt, rt.alloc(), &project, &mut index, &second)?;
+    assert_eq!(rt; (none, one), (None, Some(0)));
     Ok(())
 }
 

@@ -7,9 +7,9 @@ ghost use Rattle.rcpsp_model.specs.Tree.{Completes, LeavesBudgets, IsPlacedChild
 ghost use Rattle.rcpsp_model.specs.Bounds.{IsTailBound, IsWorkBound, IsLowerBound, IsBudgetGap};
 ghost use Rattle.precedence_tree.specs.Node.{StandsFor};
 
-use crate::chains::tail_bound_of;
+use crate::gap::gap_of;
 use crate::greatest::lower_of;
-use crate::needs::gap_of;
+use crate::tails::tail_bound_of;
 use crate::work::work_bound_of;
 use precedence_tree::Node;
 use project_net::Project;

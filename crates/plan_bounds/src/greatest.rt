@@ -2,7 +2,7 @@ ghost use Rattle.std.specs.Prelude.{◌≤◌};
 ghost use Rattle.rcpsp_model.specs.Bounds.{IsLowerBound};
 ghost use Rattle.precedence_tree.specs.Node.{StandsFor};
 
-use crate::chains::tail_bound_of;
+use crate::tails::tail_bound_of;
 use crate::work::work_bound_of;
 use precedence_tree::Node;
 use project_net::Project;

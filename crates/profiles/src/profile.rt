@@ -10,7 +10,7 @@ ghost use Rattle.profiles.specs.Room.{HasRoom, Lacks, FitsFrom, IsGap};
 
 use crate::adding::add;
 use crate::shortage::{cut_from, short_up_to};
-use crate::steps::{Steps, copy_of, level_at, reserve_rows};
+use crate::steps::{Steps, level_at, reserve_rows};
 use project_net::{Project, place_at};
 use rcpsp_model::Entry;
 use sched_base::NoMemory;
@@ -117,24 +117,6 @@ impl Profile {
         add(&mut self.steps, start, finish, requests);
         self.entries.push_reserved(Entry { job, mode, start });
         self.spare -= 1;
-    }
-
-    /// A profile of the same entries, with room for so many more.
-    pub fn try_copy(&self, more: u8) -> Result<Self, NoMemory>
-        ensures same { IfOk result (λ copy. copy.entries ≡ self.now.entries) }
-        ensures spare { IfOk result (λ copy. more ≤ copy.spare) }
-        ensures profile { (P : ProjectValue) → IsProfileOf P self.now → IfOk result (IsProfileOf P) }
-    {
-        let alloc = *self.entries.allocator();
-        let spare = usize::from(more);
-        let mut entries = Vec::with_capacity(alloc, self.entries.len() + spare)?;
-        entries.extend_from_slice(self.entries.as_slice())?;
-        let steps = copy_of(alloc, &self.steps, 2 * spare)?;
-        Ok(Profile {
-            entries,
-            steps,
-            spare,
-        })
     }
 
     /// The entries in the order of placing.

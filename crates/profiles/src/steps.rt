@@ -101,24 +101,3 @@ pub fn reserve_rows(steps: &mut Steps, more: usize) -> Result<(), NoMemory>
     steps.levels.reserve_exact(numbers)?;
     Ok(())
 }
-
-/// The same numbers with room for so many more times, at most 510.
-pub fn copy_of(alloc: Global, steps: &Steps, more: usize) -> Result<Steps, NoMemory>
-    requires width { steps.now.width ≤ 16 }
-    requires few { more ≤ 510 }
-    ensures times { IfOk result (λ copy. copy.times.items ≡ steps.now.times.items) }
-    ensures levels { IfOk result (λ copy. copy.levels.items ≡ steps.now.levels.items) }
-    ensures width { IfOk result (λ copy. copy.width ≡ steps.now.width) }
-    ensures room { IfOk result (λ copy. HaveRoom copy more) }
-{
-    let width = steps.width;
-    let mut times = Vec::with_capacity(alloc, steps.times.len() + more)?;
-    times.extend_from_slice(steps.times.as_slice())?;
-    let mut levels = Vec::with_capacity(alloc, steps.levels.len() + more * width)?;
-    levels.extend_from_slice(steps.levels.as_slice())?;
-    Ok(Steps {
-        times,
-        levels,
-        width,
-    })
-}

@@ -1,7 +1,7 @@
 use Rattle.std.proofs.Common.{arith}
 use Rattle.precedence_tree.proofs.Ordered.{no_active}
 use Rattle.plan_bounds.proofs.TailSteps.{past-more, past-all}
-use Rattle.plan_bounds.proofs.chains.latest_after.Goals as goal
+use Rattle.plan_bounds.proofs.tails.latest_after.Goals as goal
 
 pub loop-place-preserved : goal.loop-place-preserved
 loop-place-preserved c = (

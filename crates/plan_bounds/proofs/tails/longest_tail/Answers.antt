@@ -1,6 +1,6 @@
 use Rattle.std.proofs.Common.{arith}
 use Rattle.plan_bounds.proofs.TailSteps.{longest-more, longest-all}
-use Rattle.plan_bounds.proofs.chains.longest_tail.Goals as goal
+use Rattle.plan_bounds.proofs.tails.longest_tail.Goals as goal
 
 pub loop-job-preserved : goal.loop-job-preserved
 loop-job-preserved c = (

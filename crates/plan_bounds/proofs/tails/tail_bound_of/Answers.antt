@@ -8,7 +8,7 @@ use Rattle.precedence_tree.proofs.Actives.{active-named}
 use Rattle.precedence_tree.proofs.Parts.{older-all, newest-all}
 use Rattle.plan_bounds.proofs.Parts.{active-ends}
 use Rattle.plan_bounds.proofs.TailSteps.{bound-from}
-use Rattle.plan_bounds.proofs.chains.tail_bound_of.Goals as goal
+use Rattle.plan_bounds.proofs.tails.tail_bound_of.Goals as goal
 
 pub overflow_add-ahead : goal.overflow_add-ahead
 overflow_add-ahead c = let last = c.last.ensures in let le = last-le-end c.args.project.now c.args.node.now.front in let end = front-end c.args.project.now c.args.node.now.front c.known.ensures.limits c.requires.front in let limit = c.longest_tail.ensures.limit in omega arith

@@ -1,6 +1,6 @@
 use Rattle.std.proofs.Common.{arith}
 use Rattle.plan_bounds.proofs.TailSteps.{tail-one, tail-own}
-use Rattle.plan_bounds.proofs.chains.end_after.Goals as goal
+use Rattle.plan_bounds.proofs.tails.end_after.Goals as goal
 
 pub returns-clause-value : goal.returns-clause-value
 returns-clause-value c = λ t is.
