@@ -1,0 +1,6 @@
+pub mod DrawSteps
+pub mod JobSteps
+pub mod Ranges
+pub mod DraftSteps
+pub mod NeedSteps
+pub mod MadeDrafts
