@@ -1,0 +1,9 @@
+pub mod FilledSums
+pub mod TablesAfter
+pub mod LeanRounds
+pub mod NextRounds
+pub mod ClosingFills
+pub mod EndedTables
+pub mod FoundReports
+pub mod SoonEnds
+pub mod ReportForms

@@ -1,0 +1,5 @@
+pub mod Round
+pub mod Closing
+pub mod Going
+pub mod Found
+pub mod Laws
