@@ -14,20 +14,18 @@ use Rattle.cutset_store.specs.Index.{fronts_of}
 use Rattle.search_table.specs.declared.view.PassView.{PassView}
 use Rattle.search_table.specs.Counts.{seen_of}
 use Rattle.search_table.specs.Lists.{least}
-use Rattle.search_table.specs.Views.{with_best, with_ticket, with_refusal}
+use Rattle.search_table.specs.Views.{with_best, with_ticket}
 use Rattle.shared_rows.specs.Rows.{RowsState}
 use Rattle.tree_worker.specs.declared.answer.Cite.{Cite}
 use Rattle.tree_worker.specs.declared.answer.Cite.TheVariants.{Earlier, Own, Live}
-use Rattle.tree_worker.specs.declared.answer.Close.{Close}
-use Rattle.tree_worker.specs.declared.answer.Close.TheVariants.{Leaf, TailBound, WorkBound, Cutset}
-use Rattle.tree_worker.specs.declared.answer.Visited.TheVariants.{Closed, Expanded, Back}
+use Rattle.tree_worker.specs.declared.answer.Visited.TheVariants.{Expanded}
 use Rattle.tree_worker.specs.Live.{Listens, CitesOther, IsLiveNote, IsLiveRecord}
 use Rattle.tree_worker.specs.Worker.{WorkerState, Progress, HasPlan, IsAtWork}
-use Rattle.tree_worker.specs.Reasons.{IsKnownReason, IsOpen}
+use Rattle.tree_worker.specs.Reasons.{IsOpen}
 use Rattle.tree_worker.specs.Offers.{OffersLeaf}
 use Rattle.tree_worker.specs.Publishes.{Expands}
-use Rattle.tree_worker.specs.Visits.{StaysOf, ExpandsNothing, OffersNone, Closes, SharesOne, Visits}
-use Rattle.tree_worker.proofs.PassSteps.{Loads, loads, listens_no_more}
+use Rattle.tree_worker.specs.Visits.{SharesOne, Visits}
+use Rattle.tree_worker.proofs.PassSteps.{Loads, loads}
 use Rattle.tree_worker.proofs.WorkSteps.{GoesOn, goes_on-loaded, notes-later, plan-offered, at_work-kept, at_work-expanded}
 
 abbrev pub at : WorkerState → PassView → Progress
@@ -38,56 +36,6 @@ pub record LoadsBest (best : ℕ) (v u : PassView) : Type 0 where
   pub view : u ≡ with_best best v
   pub seen : best ≤ v.least_seen
   pub offered : best ≤ least v.terms.start v.offers
-
--- What stays of the pass.
-
-pub stays-loaded : (best : ℕ) (v w : PassView) → best ≤ v.least_seen → Loads best v w → StaysOf v w
-stays-loaded best v w low l = record {
-  number = ap (λ (x : PassView). x.number) l.view;
-  terms = ap (λ (x : PassView). x.terms) l.view;
-  passes = ap (λ (x : PassView). x.passes) l.view;
-  split_off = ap (λ (x : PassView). x.split_off) l.view;
-  joined_counts = ap (λ (x : PassView). x.joined_counts) l.view;
-  least_seen = let s = ap (λ (x : PassView). x.least_seen) l.view in omega arith;
-  seen = l.later;
-}
-
-pub stays-offered : (v w : PassView) → w ≡ record v { offers = w.offers; least_seen = w.least_seen } → w.least_seen ≤ v.least_seen → StaysOf v w
-stays-offered v w e low = record {
-  number = ap (λ (x : PassView). x.number) e;
-  terms = ap (λ (x : PassView). x.terms) e;
-  passes = ap (λ (x : PassView). x.passes) e;
-  split_off = ap (λ (x : PassView). x.split_off) e;
-  joined_counts = ap (λ (x : PassView). x.joined_counts) e;
-  least_seen = low;
-  seen = λ q. let s = ap (seen_of q) e in omega arith;
-}
-
--- where the tickets or the own count alone changed
-pub stays-counted : (v w : PassView) (won refused own : ℕ) → w ≡ record v { won = won; refused = refused; own = own } → StaysOf v w
-stays-counted v w won refused own e = record {
-  number = ap (λ (x : PassView). x.number) e;
-  terms = ap (λ (x : PassView). x.terms) e;
-  passes = ap (λ (x : PassView). x.passes) e;
-  split_off = ap (λ (x : PassView). x.split_off) e;
-  joined_counts = ap (λ (x : PassView). x.joined_counts) e;
-  least_seen = let s = ap (λ (x : PassView). x.least_seen) e in omega arith;
-  seen = λ q. let s = ap (seen_of q) e in omega arith;
-}
-
-pub stays-on : (u v w : PassView) → StaysOf u v → StaysOf v w → StaysOf u w
-stays-on u v w a b = record {
-  number = b.number ∙ a.number;
-  terms = b.terms ∙ a.terms;
-  passes = b.passes ∙ a.passes;
-  split_off = b.split_off ∙ a.split_off;
-  joined_counts = b.joined_counts ∙ a.joined_counts;
-  least_seen = let x = a.least_seen in let y = b.least_seen in omega arith;
-  seen = λ q. let x = a.seen q in let y = b.seen q in omega arith;
-}
-
-pub loaded-best : (best : ℕ) (v u : PassView) → LoadsBest best v u → Loads best v u
-loaded-best best v u l = loads best v u u l.view (listens_no_more u)
 
 pub loaded-on : (best : ℕ) (v u w : PassView) → LoadsBest best v u → Listens u w → Loads best v w
 loaded-on best v u w l h = loads best v u w l.view h
@@ -107,29 +55,6 @@ offers-from P F best v u w plan now l o = record {
   seen = o.seen;
 }
 
-pub visits-leaf : (P : Project) (earlier : List (List Entry)) (rows : RowsState) (refused refused_now : ℕ) (node : NodeState) (old new : WorkerState) (v u w : PassView) (best : ℕ) → LoadsBest best v u → IsLeaf P node.front →
-    OffersLeaf P node.front best u w old.plan new.plan → w ≡ record u { offers = w.offers; least_seen = w.least_seen } → w.least_seen ≤ u.least_seen → new ≡ record old { plan = new.plan } →
-    Visits P earlier rows refused refused_now node (at old v) (at new w) (Closed node Leaf)
-visits-leaf P earlier rows refused refused_now node old new v u w best l leaf o e low worker = record {
-  best = best;
-  seen = l.seen;
-  offered = l.offered;
-  least_seen = let s = ap (λ (x : PassView). x.least_seen) l.view in omega arith;
-  number = ap (λ (x : WorkerState). x.number) worker;
-  did = record {
-    same = refl;
-    reason = record { leaf = leaf; offers = offers-from P node.front best v u w old.plan new.plan l o; live = ap (λ (x : WorkerState). x.live) worker };
-    nothing = record {
-      won = ap (λ (x : PassView). x.won) e ∙ ap (λ (x : PassView). x.won) l.view;
-      own = ap (λ (x : PassView). x.own) e ∙ ap (λ (x : PassView). x.own) l.view;
-      expanded = ap (λ (x : WorkerState). x.expanded) worker;
-      notes = ap (λ (x : WorkerState). x.notes) worker;
-      stopped = ap (λ (x : WorkerState). x.stopped) worker;
-    };
-    refused = ap (λ (x : PassView). x.refused) e ∙ ap (λ (x : PassView). x.refused) l.view;
-  };
-}
-
 pub work-leaf : (P : Project) (rows : RowsState) (F : List Entry) (old new : WorkerState) (v u w : PassView) (best : ℕ) → IsAtWork P rows (at old v) → LoadsBest best v u →
     OffersLeaf P F best u w old.plan new.plan → w ≡ record u { offers = w.offers; least_seen = w.least_seen } → new ≡ record old { plan = new.plan } → IsAtWork P rows (at new w)
 work-leaf P rows F old new v u w best a l o e worker =
@@ -142,56 +67,8 @@ work-leaf P rows F old new v u w best a l o e worker =
     (at_work-kept P rows (at old v) w new.plan old.live old.heard a g (ap (λ (x : PassView). x.won) e ∙ ap (λ (x : PassView). x.won) l.view) (ap (λ (x : PassView). x.own) e ∙ ap (λ (x : PassView). x.own) l.view)
     (plan-offered P F best v w old.plan new.plan l.offered a.plan (offers-from P F best v u w old.plan new.plan l o)) (notes-later rows v w old.live g a.live) a.heard)
 
--- A node that is closed by what is known of it.
-
-nothing-loaded : (best : ℕ) (old new : WorkerState) (v w : PassView) → Loads best v w → new ≡ record old { live = new.live; heard = new.heard } → ExpandsNothing (at old v) (at new w)
-nothing-loaded best old new v w l worker = record {
-  won = ap (λ (x : PassView). x.won) l.view;
-  own = ap (λ (x : PassView). x.own) l.view;
-  expanded = ap (λ (x : WorkerState). x.expanded) worker;
-  notes = ap (λ (x : WorkerState). x.notes) worker;
-  stopped = ap (λ (x : WorkerState). x.stopped) worker;
-}
-
-none-loaded : (best : ℕ) (old new : WorkerState) (v w : PassView) → Loads best v w → new ≡ record old { live = new.live; heard = new.heard } → OffersNone (at old v) (at new w)
-none-loaded best old new v w l worker = record { offers = ap (λ (x : PassView). x.offers) l.view; plan_kept = ap (λ (x : WorkerState). x.plan) worker }
-
 least-loaded : (best : ℕ) (v w : PassView) → Loads best v w → w.least_seen ≤ best
 least-loaded best v w l = let s = ap (λ (x : PassView). x.least_seen) l.view in omega arith
-
-closes-known : (P : Project) (earlier : List (List Entry)) (rows : RowsState) (best : ℕ) (F : List Entry) (worker : WorkerState) (v w : PassView) (close : Close) → (IsLeaf P F → ⊥) → OffersNone (at worker v) (at worker w) →
-    IsKnownReason P earlier (fronts_of worker.expanded) best F close → Closes P earlier rows best F (at worker v) (at worker w) close
-closes-known P earlier rows best F worker v w Leaf inner none reason = absurd reason
-closes-known P earlier rows best F worker v w (Cutset (Live q place)) inner none reason = absurd reason
-closes-known P earlier rows best F worker v w (Cutset (Earlier i)) inner none reason = (record { inner = inner; reason = reason; offers = none }, refl)
-closes-known P earlier rows best F worker v w (Cutset (Own i)) inner none reason = (record { inner = inner; reason = reason; offers = none }, refl)
-closes-known P earlier rows best F worker v w TailBound inner none reason = (record { inner = inner; reason = reason; offers = none }, refl)
-closes-known P earlier rows best F worker v w (WorkBound k) inner none reason = (record { inner = inner; reason = reason; offers = none }, refl)
-
-pub visits-known : (P : Project) (earlier : List (List Entry)) (rows : RowsState) (refused refused_now : ℕ) (node : NodeState) (worker : WorkerState) (v u : PassView) (best : ℕ) (close : Close) → LoadsBest best v u →
-    (IsLeaf P node.front → ⊥) → IsKnownReason P earlier (fronts_of worker.expanded) best node.front close → Visits P earlier rows refused refused_now node (at worker v) (at worker u) (Closed node close)
-visits-known P earlier rows refused refused_now node worker v u best close l inner reason =
-    let loaded = loaded-best best v u l in
-    record {
-      best = best;
-      seen = l.seen;
-      offered = l.offered;
-      least_seen = least-loaded best v u loaded;
-      number = refl;
-      did = record {
-        same = refl;
-        reason = closes-known P earlier rows best node.front worker v u close inner (none-loaded best worker worker v u loaded refl) reason;
-        nothing = nothing-loaded best worker worker v u loaded refl;
-        refused = ap (λ (x : PassView). x.refused) loaded.view;
-      };
-    }
-
-pub work-known : (P : Project) (rows : RowsState) (worker : WorkerState) (v u : PassView) (best : ℕ) → IsAtWork P rows (at worker v) → LoadsBest best v u → IsAtWork P rows (at worker u)
-work-known P rows worker v u best a l =
-    let loaded = loaded-best best v u l in
-    let g = goes_on-loaded best v u loaded in
-    at_work-kept P rows (at worker v) u worker.plan worker.live worker.heard a g (ap (λ (x : PassView). x.won) loaded.view) (ap (λ (x : PassView). x.own) loaded.view)
-    (subst (λ os. HasPlan P os worker.plan) (sym (ap (λ (x : PassView). x.offers) loaded.view)) a.plan) (notes-later rows v u worker.live g a.live) a.heard
 
 -- Other workers were heard.
 
@@ -218,63 +95,7 @@ live-cited P rows F old new v u w best (Live q place) a l h c =
     All-same (IsLiveNote rows w) new.live (old.live ++ c.cited ∷ []) c.kept
     (All-push (IsLiveNote rows w) old.live c.cited (notes-later rows v w old.live (goes_on-loaded best v w (loaded-on best v u w l h)) a.live) c.is.is)
 
-pub visits-live : (P : Project) (earlier : List (List Entry)) (rows : RowsState) (refused refused_now : ℕ) (node : NodeState) (old new : WorkerState) (v u w : PassView) (best : ℕ) (cite : Cite) → LoadsBest best v u → Listens u w →
-    (IsLeaf P node.front → ⊥) → new ≡ record old { live = new.live; heard = new.heard } → CitesOther P rows w node.front old.live new.live cite →
-    Visits P earlier rows refused refused_now node (at old v) (at new w) (Closed node (Cutset cite))
-visits-live P earlier rows refused refused_now node old new v u w best (Earlier i) l h inner worker c = absurd c
-visits-live P earlier rows refused refused_now node old new v u w best (Own i) l h inner worker c = absurd c
-visits-live P earlier rows refused refused_now node old new v u w best (Live q place) l h inner worker c =
-    let loaded = loaded-on best v u w l h in
-    record {
-      best = best;
-      seen = l.seen;
-      offered = l.offered;
-      least_seen = least-loaded best v w loaded;
-      number = ap (λ (x : WorkerState). x.number) worker;
-      did = record {
-        same = refl;
-        reason = record { inner = inner; reason = c; offers = none-loaded best old new v w loaded worker };
-        nothing = nothing-loaded best old new v w loaded worker;
-        refused = ap (λ (x : PassView). x.refused) loaded.view;
-      };
-    }
-
--- There was no ticket.
-
-pub visits-back : (P : Project) (earlier : List (List Entry)) (rows : RowsState) (refused refused_now : ℕ) (node : NodeState) (old new : WorkerState) (v u w x : PassView) (best : ℕ) → LoadsBest best v u → Listens u w →
-    (IsLeaf P node.front → ⊥) → new ≡ record old { live = new.live; heard = new.heard } → new.live ≡ old.live → x ≡ with_refusal w →
-    Visits P earlier rows refused refused_now node (at old v) (at new x) (Back node)
-visits-back P earlier rows refused refused_now node old new v u w x best l h inner worker live e =
-    let loaded = loaded-on best v u w l h in
-    record {
-      best = best;
-      seen = l.seen;
-      offered = l.offered;
-      least_seen = let s = ap (λ (y : PassView). y.least_seen) e in let t = least-loaded best v w loaded in omega arith;
-      number = ap (λ (y : WorkerState). y.number) worker;
-      did = record {
-        same = refl;
-        inner = inner;
-        nothing = record {
-          won = ap (λ (y : PassView). y.won) e ∙ ap (λ (y : PassView). y.won) loaded.view;
-          own = ap (λ (y : PassView). y.own) e ∙ ap (λ (y : PassView). y.own) loaded.view;
-          expanded = ap (λ (y : WorkerState). y.expanded) worker;
-          notes = ap (λ (y : WorkerState). y.notes) worker;
-          stopped = ap (λ (y : WorkerState). y.stopped) worker;
-        };
-        refused = ap (λ (y : PassView). y.refused) e ∙ ap (λ (y : PassView). y.refused + 1) loaded.view;
-        offers = record { offers = ap (λ (y : PassView). y.offers) e ∙ ap (λ (y : PassView). y.offers) loaded.view; plan_kept = ap (λ (y : WorkerState). y.plan) worker };
-        live = live;
-      };
-    }
-
-pub work-back : (P : Project) (rows : RowsState) (worker : WorkerState) (w x : PassView) → IsAtWork P rows (at worker w) → x ≡ with_refusal w → IsAtWork P rows (at worker x)
-work-back P rows worker w x a e =
-    let g : GoesOn w x = record { number = ap (λ (y : PassView). y.number) e; terms = ap (λ (y : PassView). y.terms) e; later = λ q. let s = ap (seen_of q) e in omega arith } in
-    at_work-kept P rows (at worker w) x worker.plan worker.live worker.heard a g (ap (λ (y : PassView). y.won) e) (ap (λ (y : PassView). y.own) e)
-    (subst (λ os. HasPlan P os worker.plan) (sym (ap (λ (y : PassView). y.offers) e)) a.plan) (notes-later rows w x worker.live g a.live) a.heard
-
--- There was one.
+-- There was a ticket.
 
 -- with it the worker has expanded less than a row has cells
 pub few-expanded : (P : Project) (rows : RowsState) (old mid : WorkerState) (v u w t : PassView) (best : ℕ) → IsAtWork P rows (at old v) → LoadsBest best v u → Listens u w → mid ≡ record old { live = mid.live; heard = mid.heard } →
@@ -324,7 +145,7 @@ visits-expanded P earlier rows before refused refused_now node children old mid 
       did = record {
         same = refl;
         inner = inner;
-        open_ = known;
+        unclosed = known;
         are_children = are;
         stand = stand;
         won = ap (λ (y : PassView). y.won) after ∙ (ap (λ (y : PassView). y.won) ticket ∙ ap (λ (y : PassView). y.won + 1) loaded.view);

@@ -18,10 +18,15 @@ pub record Reaches (Kind : ℕ → Type 0) (best : ℕ) : Type 0 where
   pub is : Kind number
   pub reaches : best ≤ number
 
--- the bound that is named reaches the best
+-- k is the lowest renewable resource whose work bound reaches the best, and no tail bound does
+pub record IsLowestWork (P : Project) (F : List Entry) (best k : ℕ) : Type 0 where
+  pub tail : (t : ℕ) → IsTailBound P F t → t < best
+  pub lowest : IsLeast (λ j. Reaches (IsWorkBound P F j) best) k
+
+-- the bound that is named is the first that reaches the best
 abbrev pub IsBoundBy : Project → List Entry → ℕ → Close → Type 0
 IsBoundBy P F best TailBound = Reaches (IsTailBound P F) best
-IsBoundBy P F best (WorkBound k) = Reaches (IsWorkBound P F k) best
+IsBoundBy P F best (WorkBound k) = IsLowestWork P F best k
 IsBoundBy P F best _ = ⊥
 
 -- each bound of F is less than the best
@@ -32,10 +37,15 @@ IsBelow P F best = (n : ℕ) → LowerValue P F n → n < best
 abbrev pub IsNewTo : Project → List (List Entry) → List Entry → Type 0
 IsNewTo P fronts F = All (λ A. Dominates P A F → ⊥) fronts
 
--- the cited front of the index, or of the worker's own, is the first that dominates F; or a bound reaches the best
+-- no bound reaches the best, and the front at the place i is the first of these that dominates F
+pub record IsCutsetBy (P : Project) (fronts : List (List Entry)) (best : ℕ) (F : List Entry) (i : ℕ) : Type 0 where
+  pub below : IsBelow P F best
+  pub first : IsLeast (DominatesAt P fronts F) i
+
+-- a front of the index dominates F; or else one of the worker's own; or a bound reaches the best
 abbrev pub IsKnownReason : Project → List (List Entry) → List (List Entry) → ℕ → List Entry → Close → Type 0
-IsKnownReason P earlier own best F (Cutset (Earlier i)) = IsLeast (DominatesAt P earlier F) i
-IsKnownReason P earlier own best F (Cutset (Own i)) = IsLeast (DominatesAt P own F) i
+IsKnownReason P earlier own best F (Cutset (Earlier i)) = IsCutsetBy P earlier best F i
+IsKnownReason P earlier own best F (Cutset (Own i)) = IsNewTo P earlier F × IsCutsetBy P own best F i
 IsKnownReason P earlier own best F close = IsBoundBy P F best close
 
 -- no bound reaches the best, and no front of the index and none of the worker's own dominates F

@@ -66,7 +66,8 @@ pub record ClosesBy (P : Project) (F : List Entry) (Reason : Type 0) (before aft
 -- why a node is closed, and what else was done
 abbrev pub Closes : Project → List (List Entry) → RowsState → ℕ → List Entry → Progress → Progress → Close → Type 0
 Closes P earlier rows best F before after Leaf = ClosesLeaf P best F before after
-Closes P earlier rows best F before after (Cutset (Live worker place)) = ClosesBy P F (CitesLive P rows after.pass F before.worker.live after.worker.live worker place) before after
+Closes P earlier rows best F before after (Cutset (Live worker place)) =
+    ClosesBy P F (IsOpen P earlier (fronts_of before.worker.expanded) best F × CitesLive P rows after.pass F before.worker.live after.worker.live worker place) before after
 Closes P earlier rows best F before after close = ClosesBy P F (IsKnownReason P earlier (fronts_of before.worker.expanded) best F close) before after × CitesNone before after
 
 -- a closed node: no ticket was drawn
@@ -87,7 +88,7 @@ pub record SharesOne (refused refused_now : ℕ) (before after : Progress) : Typ
 pub record ExpandsNode (P : Project) (earlier : List (List Entry)) (best refused refused_now : ℕ) (node : NodeState) (before after : Progress) (back : NodeState) (children : List (Child NodeState)) : Type 0 where
   pub same : back ≡ node
   pub inner : IsLeaf P node.front → ⊥
-  pub open_ : IsOpen P earlier (fronts_of before.worker.expanded) best node.front
+  pub unclosed : IsOpen P earlier (fronts_of before.worker.expanded) best node.front
   pub are_children : AreChildren P node.front (child_fronts children)
   pub stand : All (StandsWherePlaced P) children
   pub won : after.pass.won ≡ before.pass.won + 1

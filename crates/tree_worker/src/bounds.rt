@@ -1,5 +1,6 @@
 ghost use Rattle.std.specs.Prelude.{◌≡◌, ℕ, ◌<◌, ◌≤◌, IfSome, IfNone, MatchBool};
 ghost use Rattle.rcpsp_model.specs.Project.{IsRenewable};
+ghost use Rattle.rcpsp_model.specs.Chain.{IsLeast};
 ghost use Rattle.rcpsp_model.specs.Bounds.{IsWorkBound, LowerValue};
 ghost use Rattle.precedence_tree.specs.Node.{StandsFor};
 ghost use Rattle.tree_worker.specs.Reasons.{Reaches, IsBoundBy};
@@ -24,7 +25,7 @@ fn is_reached(project: &Project, node: &Node, resource: u8, best: u64) -> bool
 /// The lowest renewable resource whose work bound is no less than the best, if there is one.
 fn reaching_resource(project: &Project, node: &Node, best: u64) -> Option<u8>
     requires { StandsFor project.now node.now }
-    ensures some { IfSome result (λ k. Reaches (IsWorkBound project.now node.now.front k) best) }
+    ensures some { IfSome result (IsLeast (λ k. Reaches (IsWorkBound project.now node.now.front k) best)) }
     ensures none { IfNone result ((k w : ℕ) → IsWorkBound project.now node.now.front k w → w < best) }
 {
     project.known();

@@ -1,4 +1,4 @@
-ghost use Rattle.std.specs.Prelude.{◌≡◌, ◌≤◌, OnOk};
+ghost use Rattle.std.specs.Prelude.{◌≡◌, ◌≤◌, OnOk, OnErr};
 ghost use Rattle.rcpsp_model.specs.Tree.{IsLeaf};
 ghost use Rattle.precedence_tree.specs.Node.{StandsFor};
 ghost use Rattle.tree_worker.specs.Offers.{OffersLeaf};
@@ -28,6 +28,7 @@ pub fn offer_leaf(
     ensures table { pass.new.table ≡ pass.old.table }
     ensures offers { OnOk result (OffersLeaf project.now node.now.front best pass.old.view pass.new.view plan.old plan.new) }
     ensures view { pass.new.view ≡ record pass.old.view { offers = pass.new.view.offers; least_seen = pass.new.view.least_seen } }
+    ensures err { OnErr result (pass.new.view ≡ pass.old.view) }
     ensures lower { pass.new.view.least_seen ≤ pass.old.view.least_seen }
 {
     let end = u64::from(node.end());

@@ -1,4 +1,4 @@
-ghost use Rattle.std.specs.Prelude.{◌≡◌, ◌≢◌, ℕ, ◌≤◌, ◌<◌, [], All, IfSome};
+ghost use Rattle.std.specs.Prelude.{◌≡◌, ◌≢◌, ℕ, ◌-◌, ◌≤◌, ◌<◌, [], length, max, slice_index, slice_set, All, IfSome};
 ghost use Rattle.precedence_tree.specs.Node.{StandsFor};
 ghost use Rattle.shared_rows.specs.Rows.{RowsState};
 ghost use Rattle.tree_worker.specs.Live.{IsOfOther, IsLiveRecord, StayLive, Listens, IsCited};
@@ -31,6 +31,9 @@ pub struct LiveIndex {
 /// From which place on a worker's row wasn't looked at yet; from now on it is, up to the count.
 fn looked_at(taken: &mut [u64], worker: u32, count: u64) -> u64
     requires { 1 ≤ worker }
+    ensures from { worker ≤ length taken.old → result ≡ slice_index taken.old (worker - 1) }
+    ensures looked { worker ≤ length taken.old → taken.new ≡ slice_set taken.old (worker - 1) (max (slice_index taken.old (worker - 1)) count) }
+    ensures none { length taken.old < worker → result ≡ count }
 {
     let at = worker as usize - 1;
     if at >= taken.len() {

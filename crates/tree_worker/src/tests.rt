@@ -10,7 +10,7 @@ ghost use Rattle.search_table.specs.Views.{with_publication, with_worker};
 ghost use Rattle.tree_worker.specs.Worker.{IsAtWork};
 
 use crate::{Cite, Close, TreeWorker, Visited, WorkerParts};
-use cutset_store::{CutRecord, Index};
+use cutset_store::{CutRecord, Index, SetPlace};
 use once_cell::race::OnceBox;
 use precedence_tree::{Child, Children, Node, node_of};
 use project_net::{Project, Schedule};
@@ -443,6 +443,60 @@ fn a_record_of_another_worker_closes(rt: HostRuntime) -> Result<(), Fail> {
     let parts = worker.into_parts();
     assert_eq!(rt; parts.live.len(), 1);
     assert_eq!(rt; parts.own.len(), 0);
+    Ok(())
+}
+
+/// An index that has a record of the node alone.
+fn index_of(
+    rt: &impl Abort,
+    alloc: Global,
+    project: &Project,
+    node: &Node,
+) -> Result<Index, NoMemory>
+    requires { StandsFor project.now node.now }
+    ensures { IfOk result (All (IsBaseOf project.now)) }
+{
+    let own = CutRecord::of(alloc, project, node)?;
+    let mut index = Index::new(alloc, project);
+    match index.add(own, SetPlace::Unknown) {
+        Ok(_) => Ok(index),
+        Err(_) => panic!(rt; "there is no room"),
+    }
+}
+
+/// Why a visit by a worker without a ticket closes the node, where the index has a record of another.
+fn closed_without_ticket(
+    alloc: Global,
+    project: &Project,
+    earlier: &Index,
+    node: Node,
+) -> Result<Option<Close>, NoMemory>
+    requires earlier { All (IsBaseOf project.now) earlier.now }
+    requires node { StandsFor project.now node }
+{
+    let (table, mut first) = RoundTable::new(alloc, 7, 0, 1)?;
+    let rows = Rows::new(alloc, 1, 1)?;
+    let (mut worker, mut pass) = begin(alloc, project, &table, &mut first, &rows, 1);
+    let mut cells = OnceCells::new();
+    match worker.visit(
+        alloc, project, &table, &mut pass, earlier, &rows, &mut cells, node,
+    )? {
+        Visited::Closed(_, close) => Ok(Some(close)),
+        Visited::Expanded(..) | Visited::Back(_) => Ok(None),
+    }
+}
+
+#[test]
+fn a_front_of_an_earlier_round_closes(rt: HostRuntime) -> Result<(), Fail> {
+    let alloc = rt.alloc();
+    let project = build(alloc, &TWINS)?;
+    let twin = walk(&rt, alloc, &project, &[(1, 1, 0), (2, 1, 0), (3, 1, 0)])?;
+    let earlier = index_of(&rt, alloc, &project, &twin)?;
+    let node = walk(&rt, alloc, &project, &[(1, 1, 0), (3, 1, 0), (2, 1, 0)])?;
+    let close = closed_without_ticket(alloc, &project, &earlier, node)?;
+    assert_eq!(rt; close, Some(Close::Cutset(Cite::Earlier(0))));
+    let close = closed_without_ticket(alloc, &project, &earlier, Node::root())?;
+    assert_eq!(rt; close, None);
     Ok(())
 }
 

@@ -118,6 +118,7 @@ impl TreeWorker {
         ensures table { pass.new.table ≡ pass.old.table }
         ensures offers { OnOk result (OffersLeaf project.now node.now.front best pass.old.view pass.new.view self.old.plan self.new.plan) }
         ensures view { pass.new.view ≡ record pass.old.view { offers = pass.new.view.offers; least_seen = pass.new.view.least_seen } }
+        ensures err { OnErr result (pass.new.view ≡ pass.old.view) }
         ensures lower { pass.new.view.least_seen ≤ pass.old.view.least_seen }
         ensures worker { self.new ≡ record self.old { plan = self.new.plan } }
     {
@@ -246,8 +247,8 @@ impl TreeWorker {
     ///
     /// # Errors
     ///
-    /// [`NoMemory`] where memory was refused. The node is dropped then, and nothing was published in this call; a ticket
-    /// that was drawn stays drawn. The worker may visit no more: nothing is promised of what it ends with.
+    /// [`NoMemory`] where memory was refused. The node is dropped then, and in this call nothing was offered and nothing
+    /// published; a ticket that was drawn stays drawn. The worker may visit no more: nothing is promised of what it ends with.
     pub fn visit<C: Cells<CutRecord>>(
         &mut self,
         alloc: Global,
@@ -271,6 +272,7 @@ impl TreeWorker {
 
         // What was published in this call is the record of a node that this call answers to have expanded.
         ensures silent { OnErr result (pass.new.view.own ≡ pass.old.view.own) }
+        ensures unoffered { OnErr result (pass.new.view.offers ≡ pass.old.view.offers) }
 
         ensures refused_later { C.refused cells.old ≤ C.refused cells.new }
         ensures empty_later { C.empty cells.old ≤ C.empty cells.new }

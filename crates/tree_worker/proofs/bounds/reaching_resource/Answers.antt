@@ -1,5 +1,5 @@
 use Rattle.std.proofs.Common.{arith}
-use Rattle.tree_worker.proofs.BoundSteps.{not-reached, works-none, works-more, works-all}
+use Rattle.tree_worker.proofs.BoundSteps.{lowest-reached, not-reached, works-none, works-more, works-all}
 use Rattle.tree_worker.proofs.bounds.reaching_resource.Goals as goal
 
 pub loop-resource-init : goal.loop-resource-init
@@ -14,3 +14,7 @@ loop-resource-preserved c =
 pub returns-clause-none : goal.returns-clause-none
 returns-clause-none c =
     works-all c.args.project.now c.args.node.now.front c.args.best c.loop-resource.resource (let n = c.renewables-resource-end.ensures.value in let out = c.loop-resource-test.false in omega arith) c.loop-resource.invariant
+
+pub returns-then-is_reached-clause-some : goal.returns-then-is_reached-clause-some
+returns-then-is_reached-clause-some c =
+    lowest-reached c.args.project.now c.args.node.now.front c.args.best c.loop-resource.resource c.is_reached.result c.if-is_reached.true c.is_reached.ensures c.loop-resource.invariant
