@@ -69,7 +69,7 @@ get-seen f i (suc n) (suc k) s e = let r = get-seen f (i + 1) n k s e in let l =
 
 -- The lines after the close.
 
-says-by : (T : List Row) (p : ℕ) → says (line_of [] (row_at T p)) ≡ told [] (says_at T p)
+pub says-by : (T : List Row) (p : ℕ) → says (line_of [] (row_at T p)) ≡ told [] (says_at T p)
 says-by T p = saying-told [] (row_at T p).fate
 
 -- a line that was closed at the end

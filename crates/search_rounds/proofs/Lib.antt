@@ -7,3 +7,5 @@ pub mod EndedTables
 pub mod FoundReports
 pub mod SoonEnds
 pub mod ReportForms
+pub mod VisitRounds
+pub mod VisitCases

@@ -7,10 +7,12 @@ mod closing;
 mod found;
 mod going;
 mod law;
+mod one_visit;
 mod round;
 
 pub use found::{Found, search, search_from};
 pub use law::told_report;
+pub use one_visit::OneVisit;
 pub use round::{NewRow, PlacedRecord, Records, RoundResult, Rounds, Terms, WaitingNode};
 
 #[cfg(test)]
