@@ -1,0 +1,16 @@
+pub mod JudgedLines
+pub mod LeftChoices
+pub mod WantedBranches
+pub mod LineSteps
+pub mod TakenLines
+pub mod CitedPlaces
+pub mod CourseSteps
+pub mod TextLines
+pub mod RoomForNumbers
+pub mod FedBytes
+pub mod ServedLines
+pub mod ReportEnds
+pub mod SoundVerdicts
+pub mod OneOutcomes
+pub mod AcceptedReports
+pub mod AcceptedForms

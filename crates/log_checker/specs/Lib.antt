@@ -1,0 +1,11 @@
+pub mod Reasons
+pub mod Progress
+pub mod Refusal
+pub mod Said
+pub mod Judged
+pub mod Choices
+pub mod Walk
+pub mod Citations
+pub mod Course
+pub mod Checker
+pub mod Laws
