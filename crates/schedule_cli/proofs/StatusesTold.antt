@@ -1,17 +1,18 @@
 -- The status of an answer says what the words and the text are.
-use Rattle.std.proofs.Common.{◌≡◌, ℕ, ◌↔◌, List, Option, None, Some, IfSome, refl, sym, subst, ◌∙◌}
+use Rattle.std.proofs.Common.{◌≡◌, ℕ, ◌↔◌, List, Option, None, Some, IfSome, inl, inr, refl, sym, subst, ◌∙◌}
 use Rattle.rcpsp_model.specs.declared.parts.Verdict.{Verdict}
 use Rattle.rcpsp_model.specs.declared.parts.Verdict.TheVariants.{Optimal, Infeasible, Limit}
 use Rattle.psplib_reader.proofs.OneReading.{never_both}
 use Rattle.sched_base.specs.Outside.{text_under}
 use Rattle.schedule_cli.specs.declared.answer.Answer.{Answer}
 use Rattle.schedule_cli.specs.declared.answer.Answer.TheVariants as answers
-use Rattle.schedule_cli.specs.declared.answer.Solution.TheVariants as solutions
+use Rattle.schedule_cli.specs.declared.answer.Outcome.TheVariants as outcomes
 use Rattle.schedule_cli.specs.declared.status.Status.{Status}
 use Rattle.schedule_cli.specs.declared.status.Status.TheVariants as statuses
-use Rattle.schedule_cli.specs.Words.{bad_word, project_name}
+use Rattle.schedule_cli.specs.Words.{IsSolve, IsMake, IsPrint, IsOnProject, project_name}
 use Rattle.schedule_cli.specs.Status.{IsSolved}
-use Rattle.schedule_cli.specs.Answer.{IsAnswerTo, NamesProject, NamesNoProject, status_of, status_of_verdict}
+use Rattle.schedule_cli.specs.Answer.{IsAnswerTo, NamesProject, NamesNoProject, HasProject, status_of, status_of_verdict}
+use Rattle.schedule_cli.proofs.CommandWords.{on_project_stands, bad_is_none, not_made, not_shown}
 
 verdict_solves : (v : Verdict) → IsSolved (status_of_verdict v)
 verdict_solves (Optimal d) = tt
@@ -23,20 +24,53 @@ not_bad_project (Optimal d) e = cc
 not_bad_project Infeasible e = cc
 not_bad_project (Limit d b) e = cc
 
-clash : (words : List (List ℕ)) (place : ℕ) → bad_word words ≡ Some place → bad_word words ≡ None → ⊥
-clash words place some none = cc
-
 -- an answer refuses the text exactly where that is no project
 pub bad_project_exactly : (words : List (List ℕ)) (texts : List (List ℕ × List ℕ)) (answer : Answer) → IsAnswerTo words (Some texts) answer → (status_of answer ≡ statuses.BadProject) ↔ NamesNoProject words texts
-bad_project_exactly words texts (answers.BadWords bad) is = (λ e. absurd cc, λ names. absurd (clash words bad.place is names.0))
-bad_project_exactly words texts (answers.Solution (solutions.Solved report)) is = (λ e. absurd (not_bad_project report.verdict e), λ names. absurd (names.1 (is.1.0, is.1.1)))
-bad_project_exactly words texts (answers.Solution (solutions.BadProject f)) is = (λ _. (is.0, λ p. never_both (text_under texts (project_name words)) p.0 f p.1 is.1), λ _. refl)
+bad_project_exactly words texts (answers.BadWords bad) is = (λ e. absurd cc, λ names. absurd (bad_is_none words bad.place is (on_project_stands words names.0)))
+bad_project_exactly words texts (answers.Made printed) is = (λ e. absurd cc, λ names. absurd (not_made words names.0 is.0))
+bad_project_exactly words texts (answers.Read (outcomes.Solved report)) is = (λ e. absurd (not_bad_project report.verdict e), λ names. absurd (names.1 (is.1.0, is.1.1)))
+bad_project_exactly words texts (answers.Read (outcomes.Shown printed)) is = (λ e. absurd cc, λ names. absurd (names.1 (is.1.0, is.1.1)))
+bad_project_exactly words texts (answers.Read (outcomes.BadProject f)) is = (λ _. (is.0, λ p. never_both (text_under texts (project_name words)) p.0 f p.1 is.1), λ _. refl)
 
--- it has a verdict exactly where the text is a project
-pub solved_exactly : (words : List (List ℕ)) (texts : List (List ℕ × List ℕ)) (answer : Answer) → IsAnswerTo words (Some texts) answer → IsSolved (status_of answer) ↔ NamesProject words texts
-solved_exactly words texts (answers.BadWords bad) is = (λ s. absurd s, λ names. absurd (clash words bad.place is names.0))
-solved_exactly words texts (answers.Solution (solutions.Solved report)) is = (λ _. (is.0, (is.1.0, is.1.1)), λ _. verdict_solves report.verdict)
-solved_exactly words texts (answers.Solution (solutions.BadProject f)) is = (λ s. absurd s, λ names. absurd (never_both (text_under texts (project_name words)) names.1.0 f names.1.1 is.1))
+-- words that can't stand have no project
+bad_has_none : (words : List (List ℕ)) (texts : List (List ℕ × List ℕ)) → (IsOnProject words → ⊥) → (IsMake words → ⊥) → HasProject words texts → ⊥
+bad_has_none words texts read made (inl names) = read names.0
+bad_has_none words texts read made (inr make) = made make
+
+-- a text that is refused is no project
+refused_has_none : (words : List (List ℕ)) (texts : List (List ℕ × List ℕ)) → IsOnProject words → (NamesProject words texts → ⊥) → HasProject words texts → ⊥
+refused_has_none words texts on refused (inl names) = refused names
+refused_has_none words texts on refused (inr make) = not_made words on make
+
+-- it has a verdict or prints a project exactly where there is one
+pub solved_exactly : (words : List (List ℕ)) (texts : List (List ℕ × List ℕ)) (answer : Answer) → IsAnswerTo words (Some texts) answer → IsSolved (status_of answer) ↔ HasProject words texts
+solved_exactly words texts (answers.BadWords bad) is =
+    (λ s. absurd s, λ has. absurd (bad_has_none words texts (λ on. bad_is_none words bad.place is (on_project_stands words on)) (λ make. bad_is_none words bad.place is make.0) has))
+solved_exactly words texts (answers.Made printed) is = (λ _. inr is.0, λ _. tt)
+solved_exactly words texts (answers.Read (outcomes.Solved report)) is = (λ _. inl (inl is.0, (is.1.0, is.1.1)), λ _. verdict_solves report.verdict)
+solved_exactly words texts (answers.Read (outcomes.Shown printed)) is = (λ _. inl (inr is.0, (is.1.0, is.1.1)), λ _. tt)
+solved_exactly words texts (answers.Read (outcomes.BadProject f)) is =
+    (λ s. absurd s, λ has. absurd (refused_has_none words texts is.0 (λ names. never_both (text_under texts (project_name words)) names.1.0 f names.1.1 is.1) has))
+
+-- a project that is printed has no verdict
+not_printed : (words : List (List ℕ)) → IsSolve words → IsPrint words → ⊥
+not_printed words solve (inl show) = not_shown words solve show
+not_printed words solve (inr make) = not_made words (inl solve) make
+
+pub printed_is_done : (words : List (List ℕ)) (texts : Option (List (List ℕ × List ℕ))) (answer : Answer) → IsAnswerTo words texts answer → IsSolved (status_of answer) → IsPrint words → status_of answer ≡ statuses.Done
+printed_is_done words texts (answers.BadWords bad) is solved print = absurd solved
+printed_is_done words texts (answers.Made printed) is solved print = refl
+printed_is_done words texts (answers.Read (outcomes.Solved report)) is solved print = absurd (not_printed words is.0 print)
+printed_is_done words texts (answers.Read (outcomes.Shown printed)) is solved print = refl
+printed_is_done words texts (answers.Read (outcomes.BadProject f)) is solved print = absurd solved
+
+-- what is made is printed
+pub made_is_done : (words : List (List ℕ)) (texts : Option (List (List ℕ × List ℕ))) (answer : Answer) → IsAnswerTo words texts answer → IsMake words → status_of answer ≡ statuses.Done
+made_is_done words texts (answers.BadWords bad) is make = absurd (bad_is_none words bad.place is make.0)
+made_is_done words texts (answers.Made printed) is make = refl
+made_is_done words texts (answers.Read (outcomes.Solved report)) is make = absurd (not_made words (inl is.0) make)
+made_is_done words texts (answers.Read (outcomes.Shown printed)) is make = absurd (not_made words (inr is.0) make)
+made_is_done words texts (answers.Read (outcomes.BadProject f)) is make = absurd (not_made words is.0 make)
 
 -- ---- the same of a status, where the texts may be told
 
@@ -46,12 +80,16 @@ told_bad_project words None answer status is e = tt
 told_bad_project words (Some ts) answer status is e = let exactly = bad_project_exactly words ts answer is in (λ same. exactly.0 (sym e ∙ same), λ names. e ∙ exactly.1 names)
 
 pub told_solved : (words : List (List ℕ)) (texts : Option (List (List ℕ × List ℕ))) (answer : Answer) (status : Status) → IsAnswerTo words texts answer → status ≡ status_of answer →
-    IfSome texts (λ ts. IsSolved status ↔ NamesProject words ts)
+    IfSome texts (λ ts. IsSolved status ↔ HasProject words ts)
 told_solved words None answer status is e = tt
-told_solved words (Some ts) answer status is e = let exactly = solved_exactly words ts answer is in (λ solved. exactly.0 (subst IsSolved e solved), λ names. subst IsSolved (sym e) (exactly.1 names))
+told_solved words (Some ts) answer status is e = let exactly = solved_exactly words ts answer is in (λ solved. exactly.0 (subst IsSolved e solved), λ has. subst IsSolved (sym e) (exactly.1 has))
 
--- a project that is named is solved, where its answer is told
+pub told_printed : (words : List (List ℕ)) (texts : Option (List (List ℕ × List ℕ))) (answer : Answer) (status : Status) → IsAnswerTo words texts answer → status ≡ status_of answer →
+    IsSolved status → IsPrint words → status ≡ statuses.Done
+told_printed words texts answer status is e solved print = e ∙ printed_is_done words texts answer is (subst IsSolved e solved) print
+
+-- a project that there is is solved or printed, where its answer is told
 pub told_complete : (words : List (List ℕ)) (texts : Option (List (List ℕ × List ℕ))) (answer : Answer) (status : Status) (A B C : Type 0) → IsAnswerTo words texts answer → status ≡ status_of answer →
-    IfSome texts (λ ts. NamesProject words ts → A → B → C → IsSolved status)
+    IfSome texts (λ ts. HasProject words ts → A → B → C → IsSolved status)
 told_complete words None answer status A B C is e = tt
-told_complete words (Some ts) answer status A B C is e = λ names _ _ _. subst IsSolved (sym e) ((solved_exactly words ts answer is).1 names)
+told_complete words (Some ts) answer status A B C is e = λ has _ _ _. subst IsSolved (sym e) ((solved_exactly words ts answer is).1 has)

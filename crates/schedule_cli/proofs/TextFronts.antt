@@ -5,27 +5,28 @@ use Rattle.std.proofs.lemmas.List.{take_all}
 use Rattle.psplib_lex.specs.declared.lexer.TheConstants.{MOST_BYTES}
 use Rattle.psplib_layout.proofs.OneContent.{long_text}
 use Rattle.sched_base.specs.Outside.{text_under}
-use Rattle.schedule_cli.specs.declared.answer.Solution.{Solution}
-use Rattle.schedule_cli.specs.declared.answer.Solution.TheVariants.{Solved, BadProject}
-use Rattle.schedule_cli.specs.Answer.{IsSolutionOf, IsSolutionUnder}
+use Rattle.schedule_cli.specs.declared.answer.Outcome.{Outcome}
+use Rattle.schedule_cli.specs.declared.answer.Outcome.TheVariants.{Solved, Shown, BadProject}
+use Rattle.schedule_cli.specs.Answer.{IsOutcomeOf, IsOutcomeUnder}
 
 long_front : (text : List ℕ) (most : ℕ) → MOST_BYTES < most → MOST_BYTES < length text → MOST_BYTES < length (take most text)
 long_front text most more long = let n = length-take most text in omega arith
 
-pub front_solution : (text : List ℕ) (most : ℕ) (solution : Solution) → MOST_BYTES < most → IsSolutionOf (take most text) solution → IsSolutionOf text solution
-front_solution text most solution more is = elim (cases_lt MOST_BYTES (length text)) [
-  | inl long ↦ of_long solution is (long_front text most more long) long
-  | inr short ↦ subst (λ bytes. IsSolutionOf bytes solution) (take_all most text (omega arith)) is
+pub front_outcome : (text : List ℕ) (most : ℕ) (outcome : Outcome) → MOST_BYTES < most → IsOutcomeOf (take most text) outcome → IsOutcomeOf text outcome
+front_outcome text most outcome more is = elim (cases_lt MOST_BYTES (length text)) [
+  | inl long ↦ of_long outcome is (long_front text most more long) long
+  | inr short ↦ subst (λ bytes. IsOutcomeOf bytes outcome) (take_all most text (omega arith)) is
 ]
   where
-    of_long : (solution : Solution) → IsSolutionOf (take most text) solution → MOST_BYTES < length (take most text) → MOST_BYTES < length text → IsSolutionOf text solution
+    of_long : (outcome : Outcome) → IsOutcomeOf (take most text) outcome → MOST_BYTES < length (take most text) → MOST_BYTES < length text → IsOutcomeOf text outcome
     of_long (Solved report) is front long = let few = is.1.has_content.few_bytes in absurd (omega arith)
+    of_long (Shown printed) is front long = let few = is.1.has_content.few_bytes in absurd (omega arith)
     of_long (BadProject f) (inl e) front long = inl (long_text text long ∙ sym (long_text (take most text) front) ∙ e)
     of_long (BadProject f) (inr cycle) front long = let few = cycle.has_content.few_bytes in absurd (omega arith)
 
 -- the same of the text under a name, or of the text that was read where none is told
-pub told_solution : (texts : Option (List (List ℕ × List ℕ))) (name other bytes : List ℕ) (most : ℕ) (solution : Solution) → MOST_BYTES < most → name ≡ other →
-    IfSome texts (λ ts. bytes ≡ take most (text_under ts name)) → IsSolutionOf bytes solution → IsSolutionUnder texts other solution
-told_solution None name other bytes most solution more same read is = (bytes, is)
-told_solution (Some ts) name other bytes most solution more same read is =
-    subst (λ n. IsSolutionOf (text_under ts n) solution) same (front_solution (text_under ts name) most solution more (subst (λ bs. IsSolutionOf bs solution) read is))
+pub told_outcome : (texts : Option (List (List ℕ × List ℕ))) (name other bytes : List ℕ) (most : ℕ) (outcome : Outcome) → MOST_BYTES < most → name ≡ other →
+    IfSome texts (λ ts. bytes ≡ take most (text_under ts name)) → IsOutcomeOf bytes outcome → IsOutcomeUnder texts other outcome
+told_outcome None name other bytes most outcome more same read is = (bytes, is)
+told_outcome (Some ts) name other bytes most outcome more same read is =
+    subst (λ n. IsOutcomeOf (text_under ts n) outcome) same (front_outcome (text_under ts name) most outcome more (subst (λ bs. IsOutcomeOf bs outcome) read is))

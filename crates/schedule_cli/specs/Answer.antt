@@ -1,11 +1,13 @@
 -- What a run has to tell: the answer to its words, with its text and its status.
-use Rattle.std.specs.Prelude.{◌≡◌, ℕ, List, [], ◌∷◌, ◌++◌, codes, decimal, Option, Some, None}
+use Rattle.std.specs.Prelude.{◌≡◌, ◌⊎◌, ℕ, List, [], ◌∷◌, ◌++◌, codes, decimal, Option, Some, None}
 use Rattle.sched_base.specs.Outside.{text_under}
 use Rattle.rcpsp_model.specs.declared.parts.Verdict.{Verdict}
 use Rattle.rcpsp_model.specs.declared.parts.Verdict.TheVariants.{Optimal, Infeasible, Limit}
 use Rattle.rcpsp_model.specs.Project.{Project}
 use Rattle.rcpsp_model.specs.Plan.{IsFirstPlan}
 use Rattle.rcpsp_model.specs.Claim.{Claim}
+use Rattle.project_net.specs.Canonical.{canonical}
+use Rattle.project_gen.specs.Made.{made}
 use Rattle.psplib_layout.specs.declared.fault.Fault.{Fault}
 use Rattle.psplib_layout.specs.declared.fault.Fault.TheVariants as faults
 use Rattle.psplib_layout.specs.Text.{Reads, IsProjectText, IsFirstRefusal}
@@ -14,12 +16,12 @@ use Rattle.proof_log.specs.Report.{IsReport}
 use Rattle.proof_log.specs.Text.{text}
 use Rattle.schedule_cli.specs.declared.answer.Answer.{Answer}
 use Rattle.schedule_cli.specs.declared.answer.Answer.TheVariants as answers
-use Rattle.schedule_cli.specs.declared.answer.Solution.{Solution}
-use Rattle.schedule_cli.specs.declared.answer.Solution.TheVariants as solutions
+use Rattle.schedule_cli.specs.declared.answer.Outcome.{Outcome}
+use Rattle.schedule_cli.specs.declared.answer.Outcome.TheVariants as outcomes
 use Rattle.schedule_cli.specs.declared.status.Status.{Status}
 use Rattle.schedule_cli.specs.declared.status.Status.TheVariants as statuses
 use Rattle.schedule_cli.specs.Solve.{IsLongestChain, IsVerdictOf}
-use Rattle.schedule_cli.specs.Words.{bad_word, project_name}
+use Rattle.schedule_cli.specs.Words.{bad_word, IsSolve, IsShow, IsMake, IsOnProject, project_name, seed_in, jobs_in, modes_in}
 
 -- the number of a fault of a project text
 abbrev pub code_of : Fault → ℕ
@@ -44,32 +46,40 @@ status_of_verdict (Optimal duration) = statuses.Done
 status_of_verdict Infeasible = statuses.Infeasible
 status_of_verdict (Limit duration lower) = statuses.Limit
 
-abbrev pub status_of_solution : Solution → Status
-status_of_solution (solutions.Solved report) = status_of_verdict report.verdict
-status_of_solution (solutions.BadProject refusal) = statuses.BadProject
+-- the status of what a project text comes to
+abbrev pub status_of_outcome : Outcome → Status
+status_of_outcome (outcomes.Solved report) = status_of_verdict report.verdict
+status_of_outcome (outcomes.Shown printed) = statuses.Done
+status_of_outcome (outcomes.BadProject refusal) = statuses.BadProject
 
 -- the status of an answer
 abbrev pub status_of : Answer → Status
-status_of (answers.Solution solution) = status_of_solution solution
+status_of (answers.Read outcome) = status_of_outcome outcome
+status_of (answers.Made printed) = statuses.Done
 status_of (answers.BadWords bad) = statuses.BadWords
 
 -- a line of these bytes
 abbrev pub line : List ℕ → List ℕ
 line bytes = bytes ++ 0x0A ∷ []
 
-abbrev pub text_of_solution : Solution → List ℕ
-text_of_solution (solutions.Solved report) = text report
-text_of_solution (solutions.BadProject refusal) = codes "bad project: code " ++ (decimal (code_of refusal.fault) ++ (codes " line " ++ line (decimal refusal.line)))
+-- what is written for what a project text comes to
+abbrev pub text_of_outcome : Outcome → List ℕ
+text_of_outcome (outcomes.Solved report) = text report
+text_of_outcome (outcomes.Shown printed) = printed.items
+text_of_outcome (outcomes.BadProject refusal) = codes "bad project: code " ++ (decimal (code_of refusal.fault) ++ (codes " line " ++ line (decimal refusal.line)))
 
 -- a report among the answers has a text
 abbrev pub IsTellable : Answer → Type 0
-IsTellable (answers.Solution (solutions.Solved report)) = IsReport report
-IsTellable (answers.Solution (solutions.BadProject refusal)) = Unit {0}
+IsTellable (answers.Read (outcomes.Solved report)) = IsReport report
+IsTellable (answers.Read (outcomes.Shown printed)) = Unit {0}
+IsTellable (answers.Read (outcomes.BadProject refusal)) = Unit {0}
+IsTellable (answers.Made printed) = Unit {0}
 IsTellable (answers.BadWords bad) = Unit {0}
 
 -- what is written for an answer
 abbrev pub text_of : Answer → List ℕ
-text_of (answers.Solution solution) = text_of_solution solution
+text_of (answers.Read outcome) = text_of_outcome outcome
+text_of (answers.Made printed) = printed.items
 text_of (answers.BadWords bad) = codes "bad words: word " ++ line (decimal bad.place)
 
 -- a report of the project without a log: its schedule is the first plan, and its verdict what the plan and the longest
@@ -82,21 +92,30 @@ pub record IsReportOn (P : Project) (report : Report) : Type 0 where
   pub claim : Claim P report.verdict report.best
   pub no_log : report.log ≡ None
 
--- the text is read as a project, and this is a report on it; or this is the first refusal of the text
-abbrev pub IsSolutionOf : List ℕ → Solution → Type 0
-IsSolutionOf bytes (solutions.Solved report) = (P : Project) × Reads bytes P × IsReportOn P report
-IsSolutionOf bytes (solutions.BadProject refusal) = IsFirstRefusal bytes refusal
+-- the text is read as a project, and this is a report on it, or its canonical text; or this is the first refusal of the
+-- text
+abbrev pub IsOutcomeOf : List ℕ → Outcome → Type 0
+IsOutcomeOf bytes (outcomes.Solved report) = (P : Project) × Reads bytes P × IsReportOn P report
+IsOutcomeOf bytes (outcomes.Shown printed) = (P : Project) × Reads bytes P × (printed.items ≡ canonical P)
+IsOutcomeOf bytes (outcomes.BadProject refusal) = IsFirstRefusal bytes refusal
 
--- the solution of the text under a name; where the shelf doesn't tell its texts, of some text
-abbrev pub IsSolutionUnder : Option (List (List ℕ × List ℕ)) → List ℕ → Solution → Type 0
-IsSolutionUnder None name solution = (bytes : List ℕ) × IsSolutionOf bytes solution
-IsSolutionUnder (Some texts) name solution = IsSolutionOf (text_under texts name) solution
+-- what the text under a name comes to; where the shelf doesn't tell its texts, what some text comes to
+abbrev pub IsOutcomeUnder : Option (List (List ℕ × List ℕ)) → List ℕ → Outcome → Type 0
+IsOutcomeUnder None name outcome = (bytes : List ℕ) × IsOutcomeOf bytes outcome
+IsOutcomeUnder (Some texts) name outcome = IsOutcomeOf (text_under texts name) outcome
 
--- the answer to the words: the place of the word that can't stand; or, where they are a command, the solution of the text
--- under the project's name
+-- what the words ask for: a report where they are `solve`, a text where they are `show`
+abbrev pub IsAskedFor : List (List ℕ) → Outcome → Type 0
+IsAskedFor words (outcomes.Solved report) = IsSolve words
+IsAskedFor words (outcomes.Shown printed) = IsShow words
+IsAskedFor words (outcomes.BadProject refusal) = IsOnProject words
+
+-- the answer to the words: the place of the word that can't stand; or what the text under the project's name comes to; or
+-- the canonical text of a made project
 abbrev pub IsAnswerTo : List (List ℕ) → Option (List (List ℕ × List ℕ)) → Answer → Type 0
 IsAnswerTo words texts (answers.BadWords bad) = bad_word words ≡ Some bad.place
-IsAnswerTo words texts (answers.Solution solution) = (bad_word words ≡ None) × IsSolutionUnder texts (project_name words) solution
+IsAnswerTo words texts (answers.Read outcome) = IsAskedFor words outcome × IsOutcomeUnder texts (project_name words) outcome
+IsAnswerTo words texts (answers.Made printed) = IsMake words × (printed.items ≡ canonical (made (seed_in words) (jobs_in words) (modes_in words)))
 
 -- the statuses at which an answer was told whole
 abbrev pub IsTold : Status → Type 0
@@ -107,10 +126,14 @@ IsTold _ = Unit {0}
 
 -- ---- what the words ask for
 
--- the words are a command, and the text under the project's name is a project
+-- the words are `solve` or `show`, and the text under the project's name is a project
 abbrev pub NamesProject : List (List ℕ) → List (List ℕ × List ℕ) → Type 0
-NamesProject words texts = (bad_word words ≡ None) × IsProjectText (text_under texts (project_name words))
+NamesProject words texts = IsOnProject words × IsProjectText (text_under texts (project_name words))
 
--- the words are a command, and the text under the project's name is no project
+-- the words are `solve` or `show`, and the text under the project's name is no project
 abbrev pub NamesNoProject : List (List ℕ) → List (List ℕ × List ℕ) → Type 0
-NamesNoProject words texts = (bad_word words ≡ None) × (IsProjectText (text_under texts (project_name words)) → ⊥)
+NamesNoProject words texts = IsOnProject words × (IsProjectText (text_under texts (project_name words)) → ⊥)
+
+-- the words name a project, or one is made
+abbrev pub HasProject : List (List ℕ) → List (List ℕ × List ℕ) → Type 0
+HasProject words texts = NamesProject words texts ⊎ IsMake words

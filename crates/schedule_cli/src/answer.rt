@@ -9,9 +9,11 @@ use rcpsp_model::Verdict;
 
 /// What a project text comes to.
 #[derive(Drop)]
-pub enum Solution {
-    /// It is a project, with this report.
+pub enum Outcome {
+    /// It is a project that is to be solved, with this report.
     Solved(Report),
+    /// It is a project that is to be shown, with this canonical text.
+    Shown(Vec<u8>),
     /// It is no project.
     BadProject(Refusal),
 }
@@ -19,8 +21,10 @@ pub enum Solution {
 /// What a run has to tell.
 #[derive(Drop)]
 pub enum Answer {
-    /// The words are a command, whose project text comes to this.
-    Solution(Solution),
+    /// The words speak of a project text, which comes to this.
+    Read(Outcome),
+    /// The words ask for a made project, with this canonical text.
+    Made(Vec<u8>),
     /// The words are no command.
     BadWords(BadWords),
 }
@@ -44,8 +48,9 @@ impl Answer {
         ensures { result ≡ status_of self.now }
     {
         match self {
-            Answer::Solution(Solution::Solved(report)) => verdict_status(report.verdict),
-            Answer::Solution(Solution::BadProject(_)) => Status::BadProject,
+            Answer::Read(Outcome::Solved(report)) => verdict_status(report.verdict),
+            Answer::Read(Outcome::Shown(_)) | Answer::Made(_) => Status::Done,
+            Answer::Read(Outcome::BadProject(_)) => Status::BadProject,
             Answer::BadWords(_) => Status::BadWords,
         }
     }

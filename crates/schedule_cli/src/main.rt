@@ -1,9 +1,13 @@
-//! The program: it solves a project that is read from a file, and writes a report.
+//! The program: it solves a project that is read from a file, and writes a report; and it prints projects, those that are
+//! read and those that are made.
 #![tactic(auto)]
 
 mod answer;
 mod chain;
 mod file_shelf;
+mod number;
+#[cfg(test)]
+mod print_tests;
 mod reading;
 #[cfg(test)]
 mod refusal_tests;
@@ -29,7 +33,9 @@ use std::rt::Files;
 use std::thread::Threads;
 
 /// What the program says on standard error where its words are no command.
-const USAGE: &str = "usage: schedule_cli solve PROJECT log=no";
+const USAGE: &str = "usage: schedule_cli solve PROJECT log=no
+       schedule_cli show PROJECT
+       schedule_cli make SEED JOBS [modes=M]";
 
 /// The most bytes of a word that are asked for at first.
 const USUAL_WORD: usize = 4_096;

@@ -1,21 +1,24 @@
-ghost use Rattle.std.specs.Prelude.{◌≡◌, ◌≤◌, ◌⊎◌, ◌↔◌, Err, None, IsSome, IfOk, IfSome, [], map, string_bytes};
+ghost use Rattle.std.specs.Prelude.{◌≡◌, ◌≤◌, ◌⊎◌, ◌↔◌, ℕ, List, Err, None, IsSome, IfOk, IfSome, [], map, string_bytes};
 ghost use Rattle.sched_base.specs.Outside.{Gains, GainsFront, Rose};
 ghost use Rattle.schedule_cli.specs.declared.answer.Answer.{Answer as Told};
 ghost use Rattle.schedule_cli.specs.declared.answer.Answer.TheVariants as answers;
 ghost use Rattle.schedule_cli.specs.declared.stop.Stop.TheVariants as stops;
-ghost use Rattle.schedule_cli.specs.Words.{bad_word};
+ghost use Rattle.project_net.specs.Canonical.{canonical};
+ghost use Rattle.project_gen.specs.Made.{made};
+ghost use Rattle.schedule_cli.specs.Words.{bad_word, IsSolve, IsShow, IsMake, IsOnProject, IsPrint};
 ghost use Rattle.schedule_cli.specs.Status.{IsSolved, IsFaultless};
-ghost use Rattle.schedule_cli.specs.Answer.{IsSolutionOf, IsReportOn, IsAnswerTo, IsTellable, IsTold, NamesProject, NamesNoProject, status_of, text_of};
+ghost use Rattle.schedule_cli.specs.Answer.{IsOutcomeOf, IsAskedFor, IsReportOn, IsAnswerTo, IsTellable, IsTold, HasProject, NamesNoProject, status_of, text_of};
 ghost use Rattle.proof_log.specs.Report.{IsReport};
 
-use crate::answer::{Answer, Solution};
+use crate::answer::{Answer, Outcome};
 use crate::reading::read_text;
 use crate::status::Status;
 use crate::stop::Stop;
 use crate::tell::{Untold, tell};
 use crate::verdict::verdict_of;
-use crate::words::parse_words;
-use project_net::Project;
+use crate::words::{Command, parse_words};
+use project_gen::make;
+use project_net::{Project, print_project};
 use proof_log::Report;
 use psplib_layout::ReadError;
 use psplib_reader::read_project;
@@ -38,39 +41,75 @@ fn report_on(alloc: Global, project: &Project) -> Result<Report, NoMemory>
     })
 }
 
-/// What a project text comes to.
-fn solution_of(alloc: Global, text: &[u8]) -> Result<Solution, Stop>
-    ensures solution { IfOk result (λ solution. IsSolutionOf text.now solution) }
-    ensures text { IfOk result (λ solution. IsTellable (answers.Solution solution)) }
+/// What a project text comes to where it is to be solved.
+fn solution_of(alloc: Global, text: &[u8]) -> Result<Outcome, Stop>
+    ensures outcome { IfOk result (λ outcome. IsOutcomeOf text.now outcome) }
+    ensures asked { IfOk result (λ outcome. (words : List (List ℕ)) → IsSolve words → IsAskedFor words outcome) }
+    ensures text { IfOk result (λ outcome. IsTellable (answers.Read outcome)) }
     ensures memory { result ≡ Err stops.ReadFault → ⊥ }
 {
     match read_project(alloc, text) {
-        Ok(project) => Ok(Solution::Solved(report_on(alloc, &project)?)),
-        Err(ReadError::Refused(refusal)) => Ok(Solution::BadProject(refusal)),
+        Ok(project) => Ok(Outcome::Solved(report_on(alloc, &project)?)),
+        Err(ReadError::Refused(refusal)) => Ok(Outcome::BadProject(refusal)),
         Err(ReadError::NoMemory) => Err(Stop::NoMemory),
     }
+}
+
+/// What a project text comes to where it is to be shown.
+fn show_of(alloc: Global, text: &[u8]) -> Result<Outcome, Stop>
+    ensures outcome { IfOk result (λ outcome. IsOutcomeOf text.now outcome) }
+    ensures asked { IfOk result (λ outcome. (words : List (List ℕ)) → IsShow words → IsAskedFor words outcome) }
+    ensures text { IfOk result (λ outcome. IsTellable (answers.Read outcome)) }
+    ensures memory { result ≡ Err stops.ReadFault → ⊥ }
+{
+    match read_project(alloc, text) {
+        Ok(project) => Ok(Outcome::Shown(print_project(alloc, &project)?)),
+        Err(ReadError::Refused(refusal)) => Ok(Outcome::BadProject(refusal)),
+        Err(ReadError::NoMemory) => Err(Stop::NoMemory),
+    }
+}
+
+/// The canonical text of a made project.
+fn made_text(alloc: Global, seed: u32, jobs: u8, modes: u8) -> Result<Vec<u8>, Stop>
+    requires some { 3 ≤ jobs }
+    requires few { jobs ≤ 128 }
+    requires some_mode { 1 ≤ modes }
+    requires few_modes { modes ≤ 4 }
+    ensures text { IfOk result (λ text. text.items ≡ canonical (made seed jobs modes)) }
+    ensures memory { result ≡ Err stops.ReadFault → ⊥ }
+{
+    let project = make(alloc, u64::from(seed), jobs, modes)?;
+    Ok(print_project(alloc, &project)?)
 }
 
 /// The answer to the words.
 fn answer_to<S: Shelf>(alloc: Global, words: &[String], shelf: &mut S) -> Result<Answer, Stop>
     ensures answer { IfOk result (λ answer. IsAnswerTo (map string_bytes words.now) (S.texts shelf.old) answer) }
     ensures text { IfOk result IsTellable }
-    ensures fault { result ≡ Err stops.ReadFault → (bad_word (map string_bytes words.now) ≡ None) × Rose (S.faults shelf.old) (S.faults shelf.new) }
+    ensures fault { result ≡ Err stops.ReadFault → IsOnProject (map string_bytes words.now) × Rose (S.faults shelf.old) (S.faults shelf.new) }
     ensures texts { S.texts shelf.new ≡ S.texts shelf.old }
     ensures later { S.faults shelf.old ≤ S.faults shelf.new }
+    ensures unread { IsMake (map string_bytes words.now) → shelf.new ≡ shelf.old }
 {
     match parse_words(words) {
-        Ok(command) => {
-            let text = read_text(alloc, shelf, command.project())?;
-            Ok(Answer::Solution(solution_of(alloc, &text)?))
+        Ok(Command::Solve { project }) => {
+            let text = read_text(alloc, shelf, project)?;
+            Ok(Answer::Read(solution_of(alloc, &text)?))
         }
+        Ok(Command::Show { project }) => {
+            let text = read_text(alloc, shelf, project)?;
+            Ok(Answer::Read(show_of(alloc, &text)?))
+        }
+        Ok(Command::Make { seed, jobs, modes }) => Ok(Answer::Made(made_text(
+            alloc, seed, jobs, modes,
+        )?)),
         Err(bad) => Ok(Answer::BadWords(bad)),
     }
 }
 
 /// Runs the program on these words: reads the project from the shelf, and writes what there is to tell to the sink.
 ///
-/// The words are `solve PROJECT log=no`. All memory is taken before the first byte is written.
+/// The words are `solve PROJECT log=no`, `show PROJECT`, or `make SEED JOBS` with `modes=M` or nothing behind it. All memory is taken before the first byte is written.
 pub fn run<R: Threads + Sync, S: Shelf, K: Sink, G: Gate + Sync>(
     _rt: &R,
     alloc: Global,
@@ -88,27 +127,31 @@ pub fn run<R: Threads + Sync, S: Shelf, K: Sink, G: Gate + Sync>(
         × GainsFront (K.held out.old) (K.held out.new) (text_of answer) }
     ensures write_fault { result ≡ Status.WriteFault → Rose (K.faults out.old) (K.faults out.new) }
 
-    // A fault of the shelf, or want of memory, leaves nothing; the words of a faulty shelf are a command.
-    ensures read_fault { result ≡ Status.ReadFault → (bad_word (map string_bytes words.now) ≡ None) × Rose (S.faults shelf.old) (S.faults shelf.new) }
+    // A fault of the shelf, or want of memory, leaves nothing; the words of a faulty shelf are `solve` or `show`.
+    ensures read_fault { result ≡ Status.ReadFault → IsOnProject (map string_bytes words.now) × Rose (S.faults shelf.old) (S.faults shelf.new) }
     ensures silent { (result ≡ Status.ReadFault) ⊎ (result ≡ Status.NoMemory) → Gains (K.held out.old) (K.held out.new) [] }
 
-    // The shelf has its texts as before, and no count of faults falls.
+    // The shelf has its texts as before, and no count of faults falls; `make` leaves the whole shelf alone.
     ensures texts { S.texts shelf.new ≡ S.texts shelf.old }
     ensures shelf_count { S.faults shelf.old ≤ S.faults shelf.new }
     ensures sink_count { K.faults out.old ≤ K.faults out.new }
+    ensures unread { IsMake (map string_bytes words.now) → shelf.new ≡ shelf.old }
 
     // Unless the status is 7 or 8, it is 4 exactly where some word can't stand.
     ensures bad_words { (result ≡ Status.WriteFault → ⊥) → (result ≡ Status.NoMemory → ⊥) → (result ≡ Status.BadWords) ↔ IsSome (bad_word (map string_bytes words.now)) }
 
-    // Where an answer is told, the status is 5 exactly where the words are a command and the text is no project, and 0, 1
-    // or 2 exactly where it is one.
+    // Where an answer is told, the status is 5 exactly where the words are `solve` or `show` and the text is no project,
+    // and 0, 1 or 2 exactly where it is one, or where the words are `make`; of these, `show` and `make` have 0 alone.
     ensures bad_project { IsTold result → IfSome (S.texts shelf.old) (λ texts. (result ≡ Status.BadProject) ↔ NamesNoProject (map string_bytes words.now) texts) }
-    ensures solved { IsTold result → IfSome (S.texts shelf.old) (λ texts. IsSolved result ↔ NamesProject (map string_bytes words.now) texts) }
+    ensures solved { IsTold result → IfSome (S.texts shelf.old) (λ texts. IsSolved result ↔ HasProject (map string_bytes words.now) texts) }
+    ensures printed { IsSolved result → IsPrint (map string_bytes words.now) → result ≡ Status.Done }
 
-    // Where no fault was counted in the call and memory wasn't refused, an answer is told, and a project is solved.
+    // Where no fault was counted in the call and memory wasn't refused, an answer is told, and a project is solved or
+    // printed; `make` needs no shelf for it.
     ensures answers { IsFaultless (S.faults shelf.old) (S.faults shelf.new) → IsFaultless (K.faults out.old) (K.faults out.new) → (result ≡ Status.NoMemory → ⊥) → IsTold result }
-    ensures complete { IfSome (S.texts shelf.old) (λ texts. NamesProject (map string_bytes words.now) texts
+    ensures complete { IfSome (S.texts shelf.old) (λ texts. HasProject (map string_bytes words.now) texts
         → IsFaultless (S.faults shelf.old) (S.faults shelf.new) → IsFaultless (K.faults out.old) (K.faults out.new) → (result ≡ Status.NoMemory → ⊥) → IsSolved result) }
+    ensures makes { IsMake (map string_bytes words.now) → IsFaultless (K.faults out.old) (K.faults out.new) → (result ≡ Status.NoMemory → ⊥) → result ≡ Status.Done }
 {
     match answer_to(alloc, words, shelf) {
         Ok(answer) => match tell(alloc, out, &answer) {

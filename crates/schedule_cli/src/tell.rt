@@ -3,7 +3,7 @@ ghost use Rattle.sched_base.specs.Outside.{Gains, GainsFront, Rose};
 ghost use Rattle.schedule_cli.specs.Answer.{code_of, line, text_of, IsTellable};
 ghost use Rattle.schedule_cli.specs.declared.tell.Untold.TheVariants.{NoMemory, WriteFault};
 
-use crate::answer::{Answer, Solution};
+use crate::answer::{Answer, Outcome};
 use crate::words::BadWords;
 use proof_log::write_report;
 use psplib_layout::{Fault, Refusal};
@@ -73,8 +73,9 @@ pub fn tell<K: Sink>(alloc: Global, out: &mut K, answer: &Answer) -> Result<(), 
     ensures later { K.faults out.old ≤ K.faults out.new }
 {
     match answer {
-        Answer::Solution(Solution::Solved(report)) => write_report(out, report)?,
-        Answer::Solution(Solution::BadProject(refusal)) => {
+        Answer::Read(Outcome::Solved(report)) => write_report(out, report)?,
+        Answer::Read(Outcome::Shown(text)) | Answer::Made(text) => write_whole(out, text)?,
+        Answer::Read(Outcome::BadProject(refusal)) => {
             let line = bad_project_line(alloc, code(refusal.fault), refusal.line)?;
             write_whole(out, line.as_bytes())?;
         }

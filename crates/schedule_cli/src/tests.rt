@@ -31,7 +31,7 @@ fn text_of(alloc: Global, rows: &Rows<'_>) -> Result<String, AllocError> {
 }
 
 /// A shelf that has one text, under the name `p`, and whose listed calls fail.
-fn shelf_of(alloc: Global, text: &[u8], failing: Vec<u64>) -> Result<MemShelf, AllocError> {
+pub fn shelf_of(alloc: Global, text: &[u8], failing: Vec<u64>) -> Result<MemShelf, AllocError> {
     let mut bytes = Vec::new(alloc);
     bytes.extend_from_slice(text)?;
     let texts = vec![in alloc; (String::from_str(alloc, "p")?, bytes)]?;
@@ -39,7 +39,7 @@ fn shelf_of(alloc: Global, text: &[u8], failing: Vec<u64>) -> Result<MemShelf, A
 }
 
 /// The words, from a text in which blanks separate them.
-fn words_of(alloc: Global, text: &str) -> Result<Vec<String>, AllocError> {
+pub fn words_of(alloc: Global, text: &str) -> Result<Vec<String>, AllocError> {
     let mut words = Vec::new(alloc);
     for word in text.split_whitespace() {
         words.push(String::from_str(alloc, word)?)?;
@@ -48,7 +48,7 @@ fn words_of(alloc: Global, text: &str) -> Result<Vec<String>, AllocError> {
 }
 
 /// Runs the program on these words, and compares its status and what it writes.
-fn check<R: Threads + Abort + Sync + AllocGlobal>(
+pub fn check<R: Threads + Abort + Sync + AllocGlobal>(
     rt: &R,
     words: &str,
     shelf: &mut MemShelf,
@@ -195,7 +195,7 @@ fn eighteen_jobs_end_with_their_longest_chain(rt: HostRuntime) {
 }
 
 /// A line for each of 128 jobs: what stands before its number, the number, and what stands behind it.
-fn append_jobs(
+pub fn append_jobs(
     alloc: Global,
     text: &mut String,
     before: &str,
@@ -252,17 +252,43 @@ fn check_refused<R: Threads + Abort + Sync + AllocGlobal>(rt: &R, words: &str, w
     check(rt, words, &mut shelf, &mut out, (Status::BadWords, want));
 }
 
+/// Words that are no command, and the place of the first that can't stand.
+const REFUSED: [(&str, u32); 24] = [
+    ("", 1),
+    ("--help", 1),
+    ("solve", 2),
+    ("solve p", 3),
+    ("solve p log=yes", 3),
+    ("solve p log=NO", 3),
+    ("solve p workers=0", 3),
+    ("solve p log=no log=no", 4),
+    ("show", 2),
+    ("show p q", 3),
+    ("make", 2),
+    ("make x 3", 2),
+    ("make -1 3", 2),
+    ("make 1000000000 3", 2),
+    ("make 1", 3),
+    ("make 1 2", 3),
+    ("make 1 129", 3),
+    ("make 1 3 4", 4),
+    ("make 1 3 modes=", 4),
+    ("make 1 3 modes=0", 4),
+    ("make 1 3 modes=5", 4),
+    ("make 1 3 mode=2", 4),
+    ("make 1 3 modes=2 modes=2", 5),
+    ("make 1 3 modes=5 modes=2", 4),
+];
+
 #[test]
 fn words_that_are_no_command_are_told(rt: HostRuntime) {
-    check_refused(&rt, "", "bad words: word 1\n");
-    check_refused(&rt, "solve", "bad words: word 2\n");
-    check_refused(&rt, "solve p", "bad words: word 3\n");
-    check_refused(&rt, "solve p log=yes", "bad words: word 3\n");
-    check_refused(&rt, "solve p log=no log=no", "bad words: word 4\n");
-    check_refused(&rt, "show p", "bad words: word 1\n");
+    for (words, place) in &REFUSED {
+        let want = format!(in rt.alloc(); "bad words: word {place}\n").expect(&rt, "memory");
+        check_refused(&rt, words, want.as_str());
+    }
 }
 
-/// Solves project A where these calls of the shelf and of the sink fail.
+/// Runs the program over project A where these calls of the shelf and of the sink fail.
 fn check_faulty<R: Threads + Abort + Sync + AllocGlobal>(
     rt: &R,
     words: &str,
@@ -287,4 +313,7 @@ fn faults_are_told_by_the_status(rt: HostRuntime) {
         (0, 2),
         (Status::WriteFault, "psplib-report 1\n"),
     );
+    check_faulty(&rt, "show p", (3, 0), (Status::ReadFault, ""));
+    check_faulty(&rt, "show p", (0, 1), (Status::WriteFault, ""));
+    check_faulty(&rt, "make 42 3", (1, 1), (Status::WriteFault, ""));
 }
