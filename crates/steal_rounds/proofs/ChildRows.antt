@@ -1,0 +1,184 @@
+-- The rows of children, and those of them that wait.
+use Rattle.std.proofs.Common.{◌≡◌, ℕ, zero, suc, ◌+◌, ◌-◌, ◌<◌, ◌≤◌, refl, sym, ap, subst, ◌∙◌, arith, List, [], ◌∷◌, ◌++◌, length, length-append, append_assoc, map, All, Option, Some, None}
+use Rattle.std.specs.List.{AllZip}
+use Rattle.std.proofs.lemmas.List.{get_or_at, length-map}
+use Rattle.std.proofs.lemmas.List.Elements.{All-cons, All-nil, All-head, All-tail}
+use Rattle.rcpsp_model.specs.declared.parts.Child.{Child}
+use Rattle.rcpsp_model.specs.declared.parts.Child.TheVariants.{Placed, Shut}
+use Rattle.rcpsp_model.specs.declared.parts.Entry.{Entry}
+use Rattle.rcpsp_model.specs.declared.parts.Verdict.{Verdict}
+use Rattle.rcpsp_model.specs.Project.{Project}
+use Rattle.rcpsp_model.specs.Tree.{Choice, entry_at, IsChild, IsShut}
+use Rattle.precedence_tree.specs.Node.{NodeState, StandsFor}
+use Rattle.precedence_tree.specs.Children.{child_front, StandsWherePlaced}
+use Rattle.log_truth.specs.Log.{Branch, by_choice}
+use Rattle.search_log.specs.declared.row.RowFate.TheVariants as fate
+use Rattle.search_log.specs.declared.row.Row.{Row}
+use Rattle.search_log.specs.declared.row.Origin.{Origin}
+use Rattle.search_log.specs.Weights.{total, over, Each}
+use Rattle.search_log.specs.Table.{no_row, row_at, says_row, children_of}
+use Rattle.search_log.specs.Stands.{TreeNode, no_node, node_at, RowSuits, IsAtPlace, if_open}
+use Rattle.search_log.specs.Laws.{child_node, child_row}
+use Rattle.search_log.proofs.Sums.{total-append, Each-append}
+use Rattle.search_log.proofs.GrownTables.{child_rows_law}
+use Rattle.search_rounds.specs.declared.round.NewRow.{NewRow}
+use Rattle.search_rounds.specs.declared.round.WaitingNode.{WaitingNode}
+use Rattle.search_rounds.specs.Round.{waits_at, waiting_of}
+use Rattle.steal_rounds.specs.Children.{last_placed, placed_row, row_of_child, new_row, waiting_child, placed_from}
+use Rattle.steal_rounds.specs.Part.{Beginning, IsNewRow}
+
+-- the node of the tree for which a child stands
+abbrev pub kid_node : List Entry → Choice → Child NodeState → TreeNode
+kid_node F c (Placed node) = record { branch = by_choice F c; front = Some node.front }
+kid_node F c (Shut j m why) = record { branch = by_choice F c; front = None }
+
+abbrev pub kid_nodes : List Entry → List Choice → List (Child NodeState) → List TreeNode
+kid_nodes F [] kids = []
+kid_nodes F (c ∷ cs) [] = []
+kid_nodes F (c ∷ cs) (kid ∷ kids) = kid_node F c kid ∷ kid_nodes F cs kids
+
+abbrev pub IsKid : Project → List Entry → Choice → Child NodeState → Type 0
+IsKid P F c kid = IsChild P F c.job c.mode (child_front kid)
+
+pub AreKids-from : (P : Project) (F : List Entry) (cs : List Choice) (kids : List (Child NodeState)) → AllZip (λ c k. IsChild P F c.job c.mode k) cs (map child_front kids) → AllZip (IsKid P F) cs kids
+AreKids-from P F [] [] z = tt
+AreKids-from P F [] (kid ∷ kids) z = absurd z
+AreKids-from P F (c ∷ cs) [] z = absurd z
+AreKids-from P F (c ∷ cs) (kid ∷ kids) z = (z.0, AreKids-from P F cs kids z.1)
+
+kid-branch : (F : List Entry) (c : Choice) (kid : Child NodeState) → (kid_node F c kid).branch ≡ by_choice F c
+kid-branch F c (Placed node) = refl
+kid-branch F c (Shut j m why) = refl
+
+pub kid-branches : (P : Project) (F : List Entry) (cs : List Choice) (kids : List (Child NodeState)) → AllZip (IsKid P F) cs kids → map (λ n. n.branch) (kid_nodes F cs kids) ≡ map (λ c. by_choice F c) cs
+kid-branches P F [] [] z = refl
+kid-branches P F [] (kid ∷ kids) z = absurd z
+kid-branches P F (c ∷ cs) [] z = absurd z
+kid-branches P F (c ∷ cs) (kid ∷ kids) z =
+    ap (λ (b : Branch). b ∷ map (λ n. n.branch) (kid_nodes F cs kids)) (kid-branch F c kid) ∙ ap (λ (bs : List Branch). by_choice F c ∷ bs) (kid-branches P F cs kids z.1)
+
+pub kid-length : (P : Project) (F : List Entry) (cs : List Choice) (kids : List (Child NodeState)) → AllZip (IsKid P F) cs kids → length (kid_nodes F cs kids) ≡ length kids
+kid-length P F [] [] z = refl
+kid-length P F [] (kid ∷ kids) z = absurd z
+kid-length P F (c ∷ cs) [] z = absurd z
+kid-length P F (c ∷ cs) (kid ∷ kids) z = ap suc (kid-length P F cs kids z.1)
+
+pub choice-length : (P : Project) (F : List Entry) (cs : List Choice) (kids : List (Child NodeState)) → AllZip (IsKid P F) cs kids → length cs ≡ length kids
+choice-length P F [] [] z = refl
+choice-length P F [] (kid ∷ kids) z = absurd z
+choice-length P F (c ∷ cs) [] z = absurd z
+choice-length P F (c ∷ cs) (kid ∷ kids) z = ap suc (choice-length P F cs kids z.1)
+
+last-placed : (F : List Entry) (e : Entry) → last_placed (F ++ e ∷ []) ≡ e
+last-placed F e = let n = length-append F (e ∷ []) in get_or_at F e [] (entry_at 0 0 0) (length (F ++ e ∷ []) - 1) (omega arith)
+
+kid-row : (P : Project) (v : Verdict) (ns : List TreeNode) (p : ℕ) (F : List Entry) (c : Choice) (kid : Child NodeState) → node_at ns p ≡ kid_node F c kid → IsKid P F c kid → RowSuits P v ns p (row_of_child kid)
+kid-row P v ns p F c (Placed node) at is =
+    let t = is.0 in
+    let own : node_at ns p ≡ child_node F c (Some t) = at ∙ ap (λ (G : List Entry). let n : TreeNode = record { branch = by_choice F c; front = Some G } in n) is.1 in
+    let entry : last_placed node.front ≡ entry_at c.job c.mode t = ap last_placed is.1 ∙ last-placed F (entry_at c.job c.mode t) in
+    let row : child_row c (Some t) fate.Open ≡ placed_row (last_placed node.front) = sym (ap placed_row entry) in
+    subst (RowSuits P v ns p) row ((child_rows_law P v ns p F c).placed t own is.2)
+kid-row P v ns p F c (Shut j m why) at is =
+    let row : child_row c None (fate.Shut why) ≡ row_of_child (Shut j m why) =
+    ap (λ (x : ℕ). let r : Row = record { start = None; fate = fate.Shut why; job = x; mode = c.mode } in r) (sym is.0)
+    ∙ ap (λ (x : ℕ). let r : Row = record { start = None; fate = fate.Shut why; job = j; mode = x } in r) (sym is.1) in
+    subst (RowSuits P v ns p) row ((child_rows_law P v ns p F c).shut why at is.2)
+
+-- the row of each child is right where the nodes of the children come behind the others
+pub kid-rows : (P : Project) (v : Verdict) (ns : List TreeNode) (F : List Entry) (cs : List Choice) (kids : List (Child NodeState)) → AllZip (IsKid P F) cs kids → (i : ℕ) → i < length kids →
+    RowSuits P v (ns ++ kid_nodes F cs kids) (length ns + i) (row_at (map row_of_child kids) i)
+kid-rows P v ns F [] [] z i l = absurd (omega arith)
+kid-rows P v ns F [] (kid ∷ kids) z i l = absurd z
+kid-rows P v ns F (c ∷ cs) [] z i l = absurd z
+kid-rows P v ns F (c ∷ cs) (kid ∷ kids) z zero l =
+    kid-row P v (ns ++ kid_node F c kid ∷ kid_nodes F cs kids) (length ns + 0) F c kid (get_or_at ns (kid_node F c kid) (kid_nodes F cs kids) no_node (length ns + 0) (omega arith)) z.0
+kid-rows P v ns F (c ∷ cs) (kid ∷ kids) z (suc i) l =
+    let n = kid_node F c kid in
+    let len = length-append ns (n ∷ []) in
+    let place : length (ns ++ n ∷ []) + i ≡ length ns + suc i = omega arith in
+    subst (λ (x : ℕ). RowSuits P v (ns ++ n ∷ kid_nodes F cs kids) x (row_at (map row_of_child kids) i)) place
+    (subst (λ (x : List TreeNode). RowSuits P v x (length (ns ++ n ∷ []) + i) (row_at (map row_of_child kids) i)) (append_assoc ns (n ∷ []) (kid_nodes F cs kids))
+    (kid-rows P v (ns ++ n ∷ []) F cs kids z.1 i (omega arith)))
+
+-- Weights.
+
+child-weight : (h : ℕ → ℕ) (p : ℕ) (kid : Child NodeState) → total (λ w. h w.place) (waiting_of (waiting_child p kid)) ≡ if_open (says_row (row_of_child kid)) (h p)
+child-weight h p (Placed node) = omega arith
+child-weight h p (Shut j m why) = refl
+
+pub waiting-append : (xs ys : List WaitingNode) → waiting_of (xs ++ ys) ≡ waiting_of xs ++ waiting_of ys
+waiting-append [] ys = refl
+waiting-append (x ∷ xs) ys = ap (λ (ws : List _). waits_at x ∷ ws) (waiting-append xs ys)
+
+pub waiting-weight : (h : ℕ → ℕ) (xs ys : List WaitingNode) → total (λ w. h w.place) (waiting_of (xs ++ ys)) ≡ total (λ w. h w.place) (waiting_of xs) + total (λ w. h w.place) (waiting_of ys)
+waiting-weight h xs ys = ap (total (λ w. h w.place)) (waiting-append xs ys) ∙ total-append (λ w. h w.place) (waiting_of xs) (waiting_of ys)
+
+-- the placed children are the open rows
+pub kid-waiting : (h : ℕ → ℕ) (p : ℕ) (kids : List (Child NodeState)) →
+    total (λ w. h w.place) (waiting_of (placed_from p kids)) ≡ over (λ k r. if_open (says_row r) (h k)) p (map row_of_child kids)
+kid-waiting h p [] = refl
+kid-waiting h p (kid ∷ kids) =
+    let a = waiting-weight h (waiting_child p kid) (placed_from (p + 1) kids) in
+    let b = child-weight h p kid in
+    let ih = kid-waiting h (p + 1) kids in
+    omega arith
+
+child-childless : (h : ℕ → ℕ) (kid : Child NodeState) → total h (children_of (says_row (row_of_child kid))) ≡ 0
+child-childless h (Placed node) = refl
+child-childless h (Shut j m why) = refl
+
+pub kid-childless : (h : ℕ → ℕ) (p : ℕ) (kids : List (Child NodeState)) → over (λ k r. total h (children_of (says_row r))) p (map row_of_child kids) ≡ 0
+kid-childless h p [] = refl
+kid-childless h p (kid ∷ kids) = let own = child-childless h kid in let ih = kid-childless h (p + 1) kids in omega arith
+
+-- What waits.
+
+child-at_place : (ns : List TreeNode) (p : ℕ) (F : List Entry) (c : Choice) (kid : Child NodeState) → node_at ns p ≡ kid_node F c kid → Each (IsAtPlace ns) (waiting_of (waiting_child p kid))
+child-at_place ns p F c (Placed node) at = (ap (λ (n : TreeNode). n.front) at, tt)
+child-at_place ns p F c (Shut j m why) at = tt
+
+pub kid-at_places : (P : Project) (ns : List TreeNode) (F : List Entry) (cs : List Choice) (kids : List (Child NodeState)) → AllZip (IsKid P F) cs kids →
+    (p : ℕ) → p ≡ length ns → Each (IsAtPlace (ns ++ kid_nodes F cs kids)) (waiting_of (placed_from p kids))
+kid-at_places P ns F [] [] z p e = tt
+kid-at_places P ns F [] (kid ∷ kids) z p e = absurd z
+kid-at_places P ns F (c ∷ cs) [] z p e = absurd z
+kid-at_places P ns F (c ∷ cs) (kid ∷ kids) z p e =
+    let n = kid_node F c kid in
+    let all : List TreeNode = ns ++ n ∷ kid_nodes F cs kids in
+    let len = length-append ns (n ∷ []) in
+    let own = child-at_place all p F c kid (get_or_at ns n (kid_nodes F cs kids) no_node p (sym e)) in
+    let ih = subst (λ (x : List TreeNode). Each (IsAtPlace x) (waiting_of (placed_from (p + 1) kids))) (append_assoc ns (n ∷ []) (kid_nodes F cs kids)) (kid-at_places P (ns ++ n ∷ []) F cs kids z.1 (p + 1) (omega arith)) in
+    subst (Each (IsAtPlace all)) (sym (waiting-append (waiting_child p kid) (placed_from (p + 1) kids)))
+    (Each-append (IsAtPlace all) (waiting_of (waiting_child p kid)) (waiting_of (placed_from (p + 1) kids)) own ih)
+
+All-append : {X : Type 0} (Q : X → Type 0) (xs ys : List X) → All Q xs → All Q ys → All Q (xs ++ ys)
+All-append Q [] ys a b = b
+All-append Q (x ∷ xs) ys a b = All-cons Q x (xs ++ ys) (All-head Q x xs a) (All-append Q xs ys (All-tail Q x xs a) b)
+
+child-stands : (P : Project) (p : ℕ) (kid : Child NodeState) → StandsWherePlaced P kid → All (λ w. StandsFor P w.node) (waiting_child p kid)
+child-stands P p (Placed node) s = All-cons (λ (w : WaitingNode). StandsFor P w.node) (record { place = p; node = node }) [] s (All-nil (λ (w : WaitingNode). StandsFor P w.node))
+child-stands P p (Shut j m why) s = All-nil (λ (w : WaitingNode). StandsFor P w.node)
+
+pub kid-stands : (P : Project) (p : ℕ) (kids : List (Child NodeState)) → All (StandsWherePlaced P) kids → (rest : List WaitingNode) → All (λ w. StandsFor P w.node) rest → All (λ w. StandsFor P w.node) (placed_from p kids ++ rest)
+kid-stands P p kids s rest r = All-append (λ (w : WaitingNode). StandsFor P w.node) (placed_from p kids) rest (placed P p kids s) r
+  where
+    placed : (P : Project) (p : ℕ) (kids : List (Child NodeState)) → All (StandsWherePlaced P) kids → All (λ w. StandsFor P w.node) (placed_from p kids)
+    placed P p [] s = All-nil (λ (w : WaitingNode). StandsFor P w.node)
+    placed P p (kid ∷ kids) s =
+        All-append (λ (w : WaitingNode). StandsFor P w.node) (waiting_child p kid) (placed_from (p + 1) kids) (child-stands P p kid (All-head (StandsWherePlaced P) kid kids s))
+        (placed P (p + 1) kids (All-tail (StandsWherePlaced P) kid kids s))
+
+-- New rows.
+
+pub rows-of_new : (o : Origin) (kids : List (Child NodeState)) → map (λ n. n.row) (map (new_row o) kids) ≡ map row_of_child kids
+rows-of_new o [] = refl
+rows-of_new o (kid ∷ kids) = ap (λ (rs : List Row). row_of_child kid ∷ rs) (rows-of_new o kids)
+
+child-new : (b : Beginning) (o : Origin) (kid : Child NodeState) → o.round ≡ b.terms.number → o.worker ≡ b.worker → IsNewRow b (new_row o kid)
+child-new b o (Placed node) r w = record { says = tt; round = r; worker = w }
+child-new b o (Shut j m why) r w = record { says = tt; round = r; worker = w }
+
+pub kid-new : (b : Beginning) (o : Origin) (kids : List (Child NodeState)) → o.round ≡ b.terms.number → o.worker ≡ b.worker → Each (IsNewRow b) (map (new_row o) kids)
+kid-new b o [] r w = tt
+kid-new b o (kid ∷ kids) r w = (child-new b o kid r w, kid-new b o kids r w)

@@ -1,0 +1,12 @@
+pub mod EndNumbers
+pub mod TailLimits
+pub mod ChildRows
+pub mod EventSteps
+pub mod PartSteps
+pub mod ClosedNodes
+pub mod TurnSteps
+pub mod VisitTurns
+pub mod TurnChains
+pub mod RoundEnds
+pub mod RoundIs
+pub mod RoundWords

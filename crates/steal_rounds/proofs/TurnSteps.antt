@@ -1,0 +1,337 @@
+-- What a turn makes of a part.
+use Rattle.std.proofs.Common.{◌≡◌, ℕ, zero, suc, ◌+◌, ◌*◌, ◌<◌, ◌≤◌, ◌⊎◌, inl, inr, refl, sym, ap, subst, ◌∙◌, arith, List, [], ◌∷◌, ◌++◌, length, length-append, append_assoc, map, All, Option, Some, None}
+use Rattle.std.specs.Prelude.{IfSome, Contains}
+use Rattle.std.specs.List.{AllZip}
+use Rattle.std.proofs.lemmas.List.{length-map, map-append}
+use Rattle.std.proofs.lemmas.List.Elements.{All-cons, All-nil, All-head, All-tail}
+use Rattle.rcpsp_model.specs.declared.parts.Child.{Child}
+use Rattle.rcpsp_model.specs.declared.parts.Entry.{Entry}
+use Rattle.rcpsp_model.specs.Project.{Project, IsProject, numbers_from}
+use Rattle.rcpsp_model.specs.Tree.{IsLeaf, AreChildren, choices}
+use Rattle.rcpsp_model.specs.Dominance.{Dominates}
+use Rattle.rcpsp_model.proofs.Lists.{In, In-All, In-from_Contains, Contains-from_In}
+use Rattle.rcpsp_model.proofs.Choices.{In-map}
+use Rattle.rcpsp_model.proofs.Fronts.{front-end}
+use Rattle.log_truth.specs.Log.{child_branches}
+use Rattle.precedence_tree.specs.declared.base.Base.{Base}
+use Rattle.precedence_tree.specs.Base.{IsBaseOf}
+use Rattle.precedence_tree.specs.Node.{NodeState, StandsFor}
+use Rattle.precedence_tree.specs.Children.{child_front, child_fronts, StandsWherePlaced}
+use Rattle.cutset_store.specs.Index.{fronts_of}
+use Rattle.search_log.specs.declared.row.RowFate.{RowFate}
+use Rattle.search_log.specs.declared.row.RowFate.TheVariants as fate
+use Rattle.search_log.specs.declared.row.Row.{Row}
+use Rattle.search_log.specs.declared.row.Origin.{Origin}
+use Rattle.search_log.specs.declared.row.Fill.{Fill}
+use Rattle.search_log.specs.declared.table.Table.{Table}
+use Rattle.search_log.specs.Weights.{total, over, Each}
+use Rattle.search_log.specs.Fates.{RowSaying, row_expanded, row_saying}
+use Rattle.search_log.specs.Table.{says_row, row_at, children_of}
+use Rattle.search_log.specs.Stands.{TreeNode, place_front, HasChildren, searching, Suits, RowSuits, FillSuits, IsAtPlace, if_open, Grows, Stands, one_expanded}
+use Rattle.search_log.specs.Lean.{none_yet, end_number}
+use Rattle.search_log.proofs.Sums.{total-append, Each-append, Each-In, numbers-total}
+use Rattle.search_log.proofs.GrownTables.{child_places_law}
+use Rattle.search_rounds.specs.declared.round.NewRow.{NewRow}
+use Rattle.search_rounds.specs.declared.round.WaitingNode.{WaitingNode}
+use Rattle.search_rounds.specs.declared.round.PlacedRecord.{PlacedRecord}
+use Rattle.search_rounds.specs.declared.round.Records.{Records}
+use Rattle.search_rounds.specs.declared.round.Terms.{Terms}
+use Rattle.search_rounds.specs.Round.{waits_at, waiting_of, AreRecords}
+use Rattle.search_rounds.proofs.FilledSums.{Contains-left, Contains-right}
+use Rattle.shared_rows.specs.Rows.{RowsState}
+use Rattle.tree_worker.specs.declared.answer.Close.{Close}
+use Rattle.tree_worker.specs.Worker.{Progress}
+use Rattle.tree_worker.specs.Reasons.{IsOpen}
+use Rattle.tree_worker.specs.Visits.{Closes}
+use Rattle.steal_rounds.specs.Ends.{end_in}
+use Rattle.steal_rounds.specs.Children.{row_of_child, new_row, placed_from}
+use Rattle.steal_rounds.specs.Fates.{fate_in, places_of}
+use Rattle.steal_rounds.specs.Part.{Beginning, PartState, Event, fills_of, says_event, IsExpansion, IsAtNode, IsEventOf, IsMadeIn, HasRecord, IsOffered, IsNewRow, IsPartAt, IsPart}
+use Rattle.steal_rounds.specs.Turns.{ExpandsAs, beginning, KeepsPart}
+use Rattle.steal_rounds.proofs.EndNumbers.{end-small, later-end}
+use Rattle.steal_rounds.proofs.ChildRows.{kid_nodes, IsKid, AreKids-from, kid-branches, kid-length, choice-length, kid-rows, waiting-append, waiting-weight, kid-waiting, kid-childless, kid-at_places, rows-of_new, kid-new}
+use Rattle.steal_rounds.proofs.EventSteps.{pushed, old-event, new-event, made-more, offered-more, later-event, fills-length}
+use Rattle.steal_rounds.proofs.PartSteps.{node-inside, front-more, at_place-more, closed-grows, expanded-grows, grows-later, next_at}
+use Rattle.steal_rounds.proofs.ClosedNodes.{never-expanded, IsClosedAs, closed-as, OffersIts, closed-offers}
+
+abbrev pub part_by : List NewRow → List Fill → List PlacedRecord → List WaitingNode → PartState
+part_by grown fills made left = record { grown = grown; fills = fills; made = made; left = left }
+
+pub same_part : (s t : PartState) → s.grown ≡ t.grown → s.fills ≡ t.fills → s.made ≡ t.made → s.left ≡ t.left → s ≡ t
+same_part s t a b c d =
+    ap (λ (x : List NewRow). part_by x s.fills s.made s.left) a ∙ (ap (λ (x : List Fill). part_by t.grown x s.made s.left) b
+    ∙ (ap (λ (x : List PlacedRecord). part_by t.grown t.fills x s.left) c ∙ ap (part_by t.grown t.fills t.made) d))
+
+abbrev pub fill_by : ℕ → RowFate → Origin → Fill
+fill_by place fate origin = record { place = place; fate = fate; origin = origin }
+
+events-many : {s : PartState} (P : Project) (b : Beginning) (ns : List TreeNode) (at : Progress) (old : IsPartAt P b ns at s) → length s.fills ≡ length old.events
+events-many P b ns at old = ap length old.fills ∙ fills-length old.events
+
+-- A node is closed.
+
+abbrev closed_part : PartState → WaitingNode → Fill → PartState
+closed_part s w f = part_by s.grown (s.fills ++ f ∷ []) s.made s.left
+
+offered-now : (P : Project) (b : Beginning) (events : List Event) (x : Event) (before after : List ℕ) → All (IsOffered P b events) before →
+    (after ≡ before) ⊎ OffersIts P (end_number b.terms.best) x.front x.fill.fate before after → All (IsOffered P b (events ++ x ∷ [])) after
+offered-now P b events x before after a (inl same) = subst (All (IsOffered P b (events ++ x ∷ []))) (sym same) (offered-more P b events x before a)
+offered-now P b events x before after a (inr its) =
+    subst (All (IsOffered P b (events ++ x ∷ []))) (sym its.offers)
+    (All-cons (IsOffered P b (events ++ x ∷ [])) _ before (record { event = x; among = new-event events x; leaf = its.leaf; is = refl; less = its.less; soon = its.soon }) (offered-more P b events x before a))
+
+closed-at : (P : Project) (rows : RowsState) (best : ℕ) (b : Beginning) (origin : Origin) (w : WaitingNode) (at now : Progress) (s : PartState) (close : Close) → IsProject P → StandsFor P w.node → rows.workers ≡ 1 →
+    now.pass.number ≡ 1 → length b.records.places ≡ length b.records.index → best ≤ at.pass.least_seen → now.pass.least_seen ≤ best → origin.turn ≡ length s.fills + 1 → origin.round ≡ b.terms.number → origin.worker ≡ b.worker →
+    Closes P (fronts_of b.records.index) rows best w.node.front at now close → at.pass.least_seen ≤ end_number b.terms.best → IfSome b.terms.best (λ end. end ≤ 1290000) →
+    map (λ m. m.known.front) s.made ≡ fronts_of at.worker.expanded → (ns : List TreeNode) → IsPartAt P b ns at (part_by s.grown s.fills s.made (w ∷ s.left)) →
+    IsPartAt P b ns now (closed_part s w (fill_by w.place (fate_in b.records.places (places_of s.made) close) origin))
+closed-at P rows best b origin w at now s close p stands one me places low falls turn round worker c start soon fronts ns old =
+    let F = w.node.front in
+    let facts = closed-as P b old.events s.made rows best w.node at now close p stands one me places old.made fronts falls c in
+    let f : Fill = fill_by w.place (fate_in b.records.places (places_of s.made) close) origin in
+    let x : Event = record { fill = f; front = F } in
+    let small = end-small b.terms.best soon in
+    let later = later-end at.pass.least_seen now.pass.least_seen (omega arith) (omega arith) in
+    let front : place_front (ns ++ old.more) w.place ≡ Some F = old.grows.each_left.0 in
+    let suits : FillSuits P (searching (end_in now.pass.least_seen)) (ns ++ old.more) f = record {
+      within = node-inside (ns ++ old.more) w.place F front;
+      closed = facts.closed;
+      says = subst (λ (o : Option (List Entry)). Suits P (searching (end_in now.pass.least_seen)) (ns ++ old.more) w.place o (row_saying f.fate)) (sym front) (facts.suits (ns ++ old.more) w.place);
+    } in
+    let many = events-many P b ns at old in
+    next_at P b ns at now (part_by s.grown s.fills s.made (w ∷ s.left)) (closed_part s w f) x old old.more (λ q G e. e) refl
+    (closed-grows P (end_in at.pass.least_seen) (end_in now.pass.least_seen) b.table.rows (map (λ n. n.row) s.grown) ns old.more (waiting_of b.dealt) w s.left s.fills f later old.grows refl facts.childless suits)
+    front (omega arith)
+    (record { round = round; worker = worker; leaf = facts.leaf; early = λ y. absurd (facts.plain y.first y.count y.is); new = λ y. absurd (facts.plain y.first y.count y.is) })
+    (omega arith) (λ e i u v. absurd (facts.plain v.first v.count v.is)) (λ e y i. absurd (facts.plain y.first y.count y.is)) facts.cites (made-more P old.events x s.made old.made)
+    (λ e i y. elim (pushed old.events x e i) [
+      | inl k ↦ old.made_all e k y
+      | inr same ↦ absurd (facts.plain y.first y.count (ap says_event same ∙ y.is))
+    ])
+    (offered-now P b old.events x at.pass.offers now.pass.offers old.offered
+    (closed-offers P (fronts_of b.records.index) b.records.places (places_of s.made) rows best (end_number b.terms.best) F at now close one me (omega arith) (front-end P F p.limits stands.front) c))
+
+pub closed-keeps : (P : Project) (rows : RowsState) (best : ℕ) (table : Table) (records : Records) (origin : Origin) (w : WaitingNode) (at now : Progress) (s t : PartState) (close : Close) → IsProject P → StandsFor P w.node → rows.workers ≡ 1 →
+    now.pass.number ≡ 1 → length records.places ≡ length records.index → best ≤ at.pass.least_seen → now.pass.least_seen ≤ best → origin.turn ≡ length s.fills + 1 →
+    Closes P (fronts_of records.index) rows best w.node.front at now close → now.worker.expanded ≡ at.worker.expanded →
+    t ≡ closed_part s w (fill_by w.place (fate_in records.places (places_of s.made) close) origin) →
+    KeepsPart P table records origin (record { at = at; part = part_by s.grown s.fills s.made (w ∷ s.left) }) (record { at = now; part = t })
+closed-keeps P rows best table records origin w at now s t close p stands one me places low falls turn c same is dealt terms number soon old =
+    let b = beginning table records origin.worker dealt terms in
+    let f : Fill = fill_by w.place (fate_in records.places (places_of s.made) close) origin in
+    let start = old.falls in
+    subst (IsPart P b now) (sym is) (record {
+      falls = omega arith;
+      rows = old.rows;
+      fronts = old.fronts ∙ sym (ap fronts_of same);
+      expanded =
+          let a = total-append (λ (y : Fill). one_expanded (row_saying y.fate)) s.fills (f ∷ []) in
+          let e = old.expanded in
+          let z = never-expanded records.places (places_of s.made) close in
+          omega arith;
+      at_tree = λ ns st or ar. closed-at P rows best b origin w at now s close p stands one me places low falls turn (sym number) refl c start soon old.fronts ns (old.at_tree ns st or ar);
+    })
+
+-- A node comes back.
+
+pub back-keeps : (P : Project) (table : Table) (records : Records) (origin : Origin) (w : WaitingNode) (at now : Progress) (s t : PartState) → now.pass.least_seen ≤ at.pass.least_seen → now.pass.offers ≡ at.pass.offers →
+    now.worker.expanded ≡ at.worker.expanded → t ≡ part_by s.grown s.fills s.made (w ∷ s.left) →
+    KeepsPart P table records origin (record { at = at; part = part_by s.grown s.fills s.made (w ∷ s.left) }) (record { at = now; part = t })
+back-keeps P table records origin w at now s t falls offers same is dealt terms number soon old =
+    let b = beginning table records origin.worker dealt terms in
+    let start = old.falls in
+    let small = end-small terms.best soon in
+    subst (IsPart P b now) (sym is) (record {
+      falls = omega arith;
+      rows = old.rows;
+      fronts = old.fronts ∙ sym (ap fronts_of same);
+      expanded = old.expanded;
+      at_tree = λ ns st or ar. back ns (old.at_tree ns st or ar) (omega arith);
+    })
+  where
+    back : (ns : List TreeNode) → IsPartAt P (beginning table records origin.worker dealt terms) ns at (part_by s.grown s.fills s.made (w ∷ s.left)) → at.pass.least_seen ≤ none_yet →
+        IsPartAt P (beginning table records origin.worker dealt terms) ns now (part_by s.grown s.fills s.made (w ∷ s.left))
+    back ns o small = record {
+      more = o.more;
+      events = o.events;
+      fills = o.fills;
+      grows = grows-later P (end_in at.pass.least_seen) (end_in now.pass.least_seen) table.rows (map (λ n. n.row) s.grown) ns o.more (waiting_of dealt) (waiting_of (w ∷ s.left)) s.fills (later-end at.pass.least_seen now.pass.least_seen small falls) o.grows;
+      at_nodes = o.at_nodes;
+      each = later-event P (beginning table records origin.worker dealt terms) at.pass.least_seen now.pass.least_seen o.events falls o.each;
+      turns = o.turns;
+      cites = o.cites;
+      made = o.made;
+      made_all = o.made_all;
+      offered = subst (All (IsOffered P (beginning table records origin.worker dealt terms) o.events)) (sym offers) o.offered;
+    }
+
+-- A node is expanded.
+
+All-of_fronts : (P : Project) (F : List Entry) (bases : List Base) → All (λ A. Dominates P A F → ⊥) (fronts_of bases) → All (λ base. Dominates P base.front F → ⊥) bases
+All-of_fronts P F [] a = All-nil (λ (base : Base). Dominates P base.front F → ⊥)
+All-of_fronts P F (base ∷ bases) a =
+    All-cons (λ (base : Base). Dominates P base.front F → ⊥) base bases (All-head (λ (A : List Entry). Dominates P A F → ⊥) base.front (fronts_of bases) a)
+    (All-of_fronts P F bases (All-tail (λ (A : List Entry). Dominates P A F → ⊥) base.front (fronts_of bases) a))
+
+All-push : {X : Type 0} (Q : X → Type 0) (xs : List X) (y : X) → All Q xs → Q y → All Q (xs ++ y ∷ [])
+All-push Q [] y a q = All-cons Q y [] q (All-nil Q)
+All-push Q (x ∷ xs) y a q = All-cons Q x (xs ++ y ∷ []) (All-head Q x xs a) (All-push Q xs y (All-tail Q x xs a) q)
+
+has-more : (made : List PlacedRecord) (m : PlacedRecord) (e : Event) → HasRecord made e → HasRecord (made ++ m ∷ []) e
+has-more made m e h = record { made_record = h.made_record; among = Contains-left made (m ∷ []) h.made_record h.among; place = h.place; front = h.front }
+
+-- no front that the worker expanded before dominates it
+own-new : (P : Project) (F : List Entry) (made : List PlacedRecord) (expanded : List Base) (e : Event) → map (λ m. m.known.front) made ≡ fronts_of expanded → All (λ A. Dominates P A F → ⊥) (fronts_of expanded) → HasRecord made e →
+    Dominates P e.front F → ⊥
+own-new P F made expanded e same none h d =
+    let i : In (map (λ (m : PlacedRecord). m.known.front) made) h.made_record.known.front = In-map (λ (m : PlacedRecord). m.known.front) made h.made_record (In-from_Contains made h.made_record h.among) in
+    let j : In (fronts_of expanded) e.front = subst (In (fronts_of expanded)) h.front (subst (λ (fs : List (List Entry)). In fs h.made_record.known.front) same i) in
+    In-All (λ (A : List Entry). Dominates P A F → ⊥) (fronts_of expanded) none e.front j d
+
+-- what an expansion gives
+pub record Expanding (P : Project) (earlier : List Base) (best : ℕ) (node : NodeState) (at now : Progress) (kids : List (Child NodeState)) : Type 0 where
+  pub inner : IsLeaf P node.front → ⊥
+  pub is_open : IsOpen P (fronts_of earlier) (fronts_of at.worker.expanded) best node.front
+  pub are : AreChildren P node.front (child_fronts kids)
+  pub base : Base
+  pub front : base.front ≡ node.front
+  pub kept : now.worker.expanded ≡ at.worker.expanded ++ base ∷ []
+  pub offers : now.pass.offers ≡ at.pass.offers
+
+abbrev expansion_fill : WaitingNode → List (Child NodeState) → ℕ → Origin → Fill
+expansion_fill w kids first origin = fill_by w.place (fate.Expanded (length kids) first) origin
+
+expansion-suits : (P : Project) (least : ℕ) (ns : List TreeNode) (w : WaitingNode) (kids : List (Child NodeState)) (first : ℕ) (origin : Origin) → (IsLeaf P w.node.front → ⊥) →
+    AllZip (IsKid P w.node.front) (choices P w.node.front) kids → first ≡ length ns → place_front ns w.place ≡ Some w.node.front →
+    FillSuits P (searching (end_in least)) (ns ++ kid_nodes w.node.front (choices P w.node.front) kids) (expansion_fill w kids first origin)
+expansion-suits P least ns w kids first origin inner z base front =
+    let F = w.node.front in
+    let most = kid_nodes F (choices P F) kids in
+    let inside = node-inside ns w.place F front in
+    let len = length-append ns most in
+    let has : HasChildren P (ns ++ most) w.place F (length ns) (length most) = child_places_law P ns most w.place F inner inside (kid-branches P F (choices P F) kids z) in
+    let count : HasChildren P (ns ++ most) w.place F first (length kids) =
+    subst (λ (n : ℕ). HasChildren P (ns ++ most) w.place F n (length kids)) (sym base) (subst (HasChildren P (ns ++ most) w.place F (length ns)) (kid-length P F (choices P F) kids z) has) in
+    record {
+      within = omega arith;
+      closed = tt;
+      says = subst (λ (o : Option (List Entry)). Suits P (searching (end_in least)) (ns ++ most) w.place o (row_expanded first (length kids))) (sym (front-more ns most w.place F front)) count;
+    }
+
+expansion-grows : (P : Project) (b : Beginning) (origin : Origin) (w : WaitingNode) (at now : Progress) (s : PartState) (kids : List (Child NodeState)) (first : ℕ) → (IsLeaf P w.node.front → ⊥) →
+    AllZip (IsKid P w.node.front) (choices P w.node.front) kids → first ≡ length b.table.rows + length s.grown → at.pass.least_seen ≤ none_yet → now.pass.least_seen ≤ at.pass.least_seen → (ns : List TreeNode) → length ns ≡ length b.table.rows →
+    (old : IsPartAt P b ns at (part_by s.grown s.fills s.made (w ∷ s.left))) →
+    Grows P (searching (end_in now.pass.least_seen)) b.table.rows ns (waiting_of b.dealt) (map (λ n. n.row) (s.grown ++ map (new_row origin) kids)) (old.more ++ kid_nodes w.node.front (choices P w.node.front) kids)
+    (s.fills ++ expansion_fill w kids first origin ∷ []) (waiting_of (placed_from first kids ++ s.left))
+expansion-grows P b origin w at now s kids first inner z base small falls ns size old =
+    let F = w.node.front in
+    let cs = choices P F in
+    let N : List TreeNode = ns ++ old.more in
+    let most = kid_nodes F cs kids in
+    let rows : List Row = map (λ (n : NewRow). n.row) s.grown in
+    let two = map row_of_child kids in
+    let L = length (b.table.rows ++ rows) in
+    let f = expansion_fill w kids first origin in
+    let lr = length-append b.table.rows rows in
+    let lm = length-map s.grown (λ (n : NewRow). n.row) in
+    let ln = length-append ns old.more in
+    let sm = old.grows.size in
+    let same : first ≡ L = omega arith in
+    let nodes : length N ≡ L = omega arith in
+    let many = length-map kids row_of_child in
+    let front : place_front N w.place ≡ Some F = old.grows.each_left.0 in
+    let joined : rows ++ two ≡ map (λ (n : NewRow). n.row) (s.grown ++ map (new_row origin) kids) =
+    ap (λ (x : List Row). rows ++ x) (sym (rows-of_new origin kids)) ∙ sym (map-append (λ (n : NewRow). n.row) s.grown (map (new_row origin) kids)) in
+    subst (λ (x : List Row). Grows P (searching (end_in now.pass.least_seen)) b.table.rows ns (waiting_of b.dealt) x (old.more ++ most) (s.fills ++ f ∷ []) (waiting_of (placed_from first kids ++ s.left))) joined
+    (expanded-grows P (end_in at.pass.least_seen) (end_in now.pass.least_seen) b.table.rows rows two ns old.more most (waiting_of b.dealt) w (placed_from first kids) s.left s.fills f size
+    (later-end at.pass.least_seen now.pass.least_seen small falls) old.grows refl (kid-length P F cs kids z ∙ sym many)
+    (λ h. numbers-total h L two ∙ (ap (λ (n : ℕ). total h (numbers_from n (length two))) (sym same) ∙ ap (λ (n : ℕ). total h (numbers_from first n)) many))
+    (λ h. kid-childless h L kids)
+    (λ h.
+    let a = waiting-weight h (placed_from first kids) s.left in
+    let c = kid-waiting h first kids in
+    let d = ap (λ (n : ℕ). over (λ k r. if_open (says_row r) (h k)) n two) same in
+    omega arith)
+    (λ i l. subst (λ (n : ℕ). RowSuits P (searching (end_in now.pass.least_seen)) (N ++ most) (n + i) (row_at two i)) nodes (kid-rows P (searching (end_in now.pass.least_seen)) N F cs kids z i (omega arith)))
+    (expansion-suits P now.pass.least_seen N w kids first origin inner z (omega arith) front)
+    (subst (Each (IsAtPlace (N ++ most))) (sym (waiting-append (placed_from first kids) s.left))
+    (Each-append (IsAtPlace (N ++ most)) (waiting_of (placed_from first kids)) (waiting_of s.left) (kid-at_places P N F cs kids z first (omega arith)) (at_place-more N most (waiting_of s.left) old.grows.each_left.1))))
+
+expanded_first : (a b c d : ℕ) → row_expanded a b ≡ row_expanded c d → a ≡ c
+expanded_first a b c d e = cc
+
+expanded-at : (P : Project) (best : ℕ) (b : Beginning) (origin : Origin) (w : WaitingNode) (at now : Progress) (s t : PartState) (kids : List (Child NodeState)) (first : ℕ) → best ≤ at.pass.least_seen → now.pass.least_seen ≤ best →
+    origin.turn ≡ length s.fills + 1 → origin.round ≡ b.terms.number → origin.worker ≡ b.worker → first ≡ length b.table.rows + length s.grown → Expanding P b.records.index best w.node at now kids →
+    (x : ExpandsAs P w.place w.node kids first origin s t) → at.pass.least_seen ≤ end_number b.terms.best → IfSome b.terms.best (λ end. end ≤ 1290000) →
+    map (λ m. m.known.front) s.made ≡ fronts_of at.worker.expanded → (ns : List TreeNode) → length ns ≡ length b.table.rows → IsPartAt P b ns at (part_by s.grown s.fills s.made (w ∷ s.left)) →
+    IsPartAt P b ns now (part_by (s.grown ++ map (new_row origin) kids) (s.fills ++ expansion_fill w kids first origin ∷ []) (s.made ++ record { place = w.place; known = x.base } ∷ []) (placed_from first kids ++ s.left))
+expanded-at P best b origin w at now s t kids first low falls turn round worker base e x start soon fronts ns size old =
+    let F = w.node.front in
+    let z = AreKids-from P F (choices P F) kids e.are in
+    let most = kid_nodes F (choices P F) kids in
+    let f = expansion_fill w kids first origin in
+    let v : Event = record { fill = f; front = F } in
+    let m : PlacedRecord = record { place = w.place; known = x.base } in
+    let expansion : IsExpansion v = record { first = first; count = length kids; is = refl } in
+    let small = end-small b.terms.best soon in
+    let front : place_front (ns ++ old.more) w.place ≡ Some F = old.grows.each_left.0 in
+    let stable : (p : ℕ) (G : List Entry) → place_front (ns ++ old.more) p ≡ Some G → place_front (ns ++ (old.more ++ most)) p ≡ Some G =
+    (λ p G h. subst (λ (N : List TreeNode). place_front N p ≡ Some G) (append_assoc ns old.more most) (front-more (ns ++ old.more) most p G h)) in
+    let many = events-many P b ns at old in
+    let lm = length-map s.grown (λ (n : NewRow). n.row) in
+    let ln = length-append ns old.more in
+    let sm = old.grows.size in
+    let bound : first ≡ length (ns ++ old.more) = omega arith in
+    next_at P b ns at now (part_by s.grown s.fills s.made (w ∷ s.left)) _ v old (old.more ++ most) stable refl
+    (expansion-grows P b origin w at now s kids first e.inner z base (omega arith) (omega arith) ns size old)
+    (stable w.place F front) (omega arith)
+    (record {
+      round = round;
+      worker = worker;
+      leaf = λ says. absurd cc;
+      early = λ y n value. let under = e.is_open.below n value in omega arith;
+      new = λ y. All-of_fronts P F b.records.index e.is_open.new_to_earlier;
+    })
+    (omega arith)
+    (λ g i u y. own-new P F s.made at.worker.expanded g fronts e.is_open.new_to_own (old.made_all g i u))
+    (λ g y i.
+    let same = expanded_first first (length kids) y.first y.count y.is in
+    let inside : g.fill.place < length (ns ++ old.more) = elim (pushed old.events v g i) [
+      | inl k ↦ node-inside (ns ++ old.more) g.fill.place g.front (Each-In (IsAtNode (ns ++ old.more)) old.events g old.at_nodes (In-from_Contains old.events g k))
+      | inr here ↦ subst (λ (y : Event). y.fill.place < length (ns ++ old.more)) here (node-inside (ns ++ old.more) w.place F front)
+    ] in
+    omega arith)
+    (λ q says. absurd cc)
+    (All-push (IsMadeIn P (old.events ++ v ∷ [])) s.made m (made-more P old.events v s.made old.made) (record { event = v; among = new-event old.events v; is = record { expansion = expansion; place = refl; front = x.front; known = x.known } }))
+    (λ g i u. elim (pushed old.events v g i) [
+      | inl k ↦ has-more s.made m g (old.made_all g k u)
+      | inr here ↦ subst (HasRecord (s.made ++ m ∷ [])) here (record { made_record = m; among = Contains-right s.made (m ∷ []) m (Contains-from_In (m ∷ []) m (inl refl)); place = refl; front = x.front })
+    ])
+    (subst (All (IsOffered P b (old.events ++ v ∷ []))) (sym e.offers) (offered-more P b old.events v at.pass.offers old.offered))
+
+pub expanded-keeps : (P : Project) (best : ℕ) (table : Table) (records : Records) (origin : Origin) (w : WaitingNode) (at now : Progress) (s t : PartState) (kids : List (Child NodeState)) (first : ℕ) → best ≤ at.pass.least_seen →
+    now.pass.least_seen ≤ best → origin.turn ≡ length s.fills + 1 → first ≡ length table.rows + length s.grown → Expanding P records.index best w.node at now kids → ExpandsAs P w.place w.node kids first origin s t →
+    KeepsPart P table records origin (record { at = at; part = part_by s.grown s.fills s.made (w ∷ s.left) }) (record { at = now; part = t })
+expanded-keeps P best table records origin w at now s t kids first low falls turn base e x dealt terms number soon old =
+    let b = beginning table records origin.worker dealt terms in
+    let m : PlacedRecord = record { place = w.place; known = x.base } in
+    let f = expansion_fill w kids first origin in
+    let start = old.falls in
+    let u : PartState = part_by (s.grown ++ map (new_row origin) kids) (s.fills ++ f ∷ []) (s.made ++ m ∷ []) (placed_from first kids ++ s.left) in
+    subst (IsPart P b now) (sym (same_part t u x.grown x.fills x.made x.left)) (record {
+      falls = omega arith;
+      rows = Each-append (IsNewRow b) s.grown (map (new_row origin) kids) old.rows (kid-new b origin kids (sym number) refl);
+      fronts =
+          map-append (λ (y : PlacedRecord). y.known.front) s.made (m ∷ [])
+          ∙ (ap (λ (fs : List (List Entry)). fs ++ x.base.front ∷ []) old.fronts
+          ∙ (ap (λ (F : List Entry). fronts_of at.worker.expanded ++ F ∷ []) (x.front ∙ sym e.front)
+          ∙ (sym (map-append (λ (y : Base). y.front) at.worker.expanded (e.base ∷ [])) ∙ sym (ap fronts_of e.kept))));
+      expanded =
+          let a = total-append (λ (y : Fill). one_expanded (row_saying y.fate)) s.fills (f ∷ []) in
+          let n = old.expanded in
+          let l = length-append s.made (m ∷ []) in
+          omega arith;
+      at_tree = λ ns st or ar.
+          let size = st.size in
+          expanded-at P best b origin w at now s t kids first low falls turn (sym number) refl base e x start soon old.fronts ns size (old.at_tree ns st or ar);
+    })

@@ -1,0 +1,63 @@
+-- What a turn of a worker does to its part.
+use Rattle.std.specs.Prelude.{◌≡◌, ℕ, ◌+◌, ◌*◌, ◌≤◌, Bool, true, false, IfSome, List, [], ◌∷◌, ◌++◌, length, map}
+use Rattle.rcpsp_model.specs.declared.parts.Child.{Child}
+use Rattle.rcpsp_model.specs.Project.{Project}
+use Rattle.precedence_tree.specs.declared.base.Base.{Base}
+use Rattle.precedence_tree.specs.Base.{IsBaseOf}
+use Rattle.precedence_tree.specs.Node.{NodeState}
+use Rattle.search_log.specs.declared.row.RowFate.TheVariants.{Expanded}
+use Rattle.search_log.specs.declared.row.Origin.{Origin}
+use Rattle.search_log.specs.declared.row.Fill.{Fill}
+use Rattle.search_log.specs.declared.table.Table.{Table}
+use Rattle.search_rounds.specs.declared.round.WaitingNode.{WaitingNode}
+use Rattle.search_rounds.specs.declared.round.PlacedRecord.{PlacedRecord}
+use Rattle.search_rounds.specs.declared.round.Records.{Records}
+use Rattle.search_rounds.specs.declared.round.Terms.{Terms}
+use Rattle.search_table.specs.PassState.{PassState}
+use Rattle.tree_worker.specs.Worker.{WorkerState, Progress}
+use Rattle.steal_rounds.specs.declared.part.Part.{Part}
+use Rattle.steal_rounds.specs.Children.{new_row, placed_from}
+use Rattle.steal_rounds.specs.Part.{Beginning, PartState, part_state, IsPart}
+
+-- a node was expanded whose children's rows begin at the place `first`
+pub record ExpandsAs (P : Project) (place : ℕ) (node : NodeState) (children : List (Child NodeState)) (first : ℕ) (origin : Origin) (before after : PartState) : Type 0 where
+  pub grown : after.grown ≡ before.grown ++ map (new_row origin) children
+  pub fills : after.fills ≡ before.fills ++ record { place = place; fate = Expanded (length children) first; origin = origin } ∷ []
+  pub base : Base
+  pub front : base.front ≡ node.front
+  pub known : IsBaseOf P base
+  pub made : after.made ≡ before.made ++ record { place = place; known = base } ∷ []
+  pub left : after.left ≡ placed_from first children ++ before.left
+
+-- how far a worker has come: what it holds, what its pass has seen and done, and its part
+pub record Stage : Type 0 where
+  pub at : Progress
+  pub part : PartState
+
+abbrev pub stage_of : WorkerState → PassState → Part → Stage
+stage_of worker pass part = record { at = record { worker = worker; pass = pass.view }; part = part_state part }
+
+abbrev pub beginning : Table → Records → ℕ → List WaitingNode → Terms → Beginning
+beginning table records worker dealt terms = record { table = table; records = records; dealt = dealt; terms = terms; worker = worker }
+
+-- where a node waits before the others
+abbrev pub next_stage : WaitingNode → Stage → Stage
+next_stage next s = record s { part = record s.part { left = next ∷ s.part.left } }
+
+-- what is a part goes on to be one: whatever was dealt, and in whatever round of this number
+abbrev pub KeepsPart : Project → Table → Records → Origin → Stage → Stage → Type 0
+KeepsPart P table records origin before after =
+    (dealt : List WaitingNode) (terms : Terms) → terms.number ≡ origin.round → IfSome terms.best (λ end. end ≤ 1290000) →
+    IsPart P (beginning table records origin.worker dealt terms) before.at before.part →
+    IsPart P (beginning table records origin.worker dealt terms) after.at after.part
+
+-- The counts of a part: at most 512 new rows for each fill, and a record for each ticket that was won
+pub record Counts (s : Stage) : Type 0 where
+  pub grown : length s.part.grown ≤ 512 * length s.part.fills
+  pub made : length s.part.made ≡ length s.at.worker.expanded
+  pub won : s.at.pass.won ≡ length s.part.made
+
+-- a turn that goes on filled one row more, and one that ends the part was refused a ticket
+abbrev pub IsTurn : Bool → Stage → Stage → Type 0
+IsTurn true before after = (length after.part.fills ≡ length before.part.fills + 1) × (after.at.pass.refused ≡ before.at.pass.refused)
+IsTurn false before after = (length after.part.fills ≡ length before.part.fills) × (after.at.pass.refused ≡ before.at.pass.refused + 1)

@@ -1,0 +1,138 @@
+use super::*;
+use proof_log::{LogLine, Verdict};
+use sched_base::Fate;
+use search_rounds::{Found, search};
+use std::process::Abort;
+use std::test::Fail;
+use worked_projects::{NO_LENGTH, SHORT_OR_CHEAP, TWINS, TWO_IN_TURN, WorkedProject, build};
+
+/// A line of a log: its job, its mode, its start, and what it says.
+type Line = (u8, u8, Option<u32>, Fate);
+
+const EXPANDED: Fate = Fate::Expanded;
+
+/// A search of one worker that may expand so many nodes.
+struct Case {
+    name: &'static str,
+    project: &'static WorkedProject,
+    nodes: u32,
+    verdict: Verdict,
+    log: &'static [Line],
+}
+
+const CASES: [Case; 5] = [
+    Case {
+        name: "two in turn",
+        project: &TWO_IN_TURN,
+        nodes: 100000,
+        verdict: Verdict::Optimal { duration: 5 },
+        log: &[
+            (0, 0, None, EXPANDED),
+            (1, 1, Some(0), EXPANDED),
+            (2, 1, Some(0), EXPANDED),
+            (3, 1, Some(3), Fate::TailBound),
+            (3, 1, Some(0), EXPANDED),
+            (2, 1, Some(2), Fate::TailBound),
+        ],
+    },
+    Case {
+        name: "two in turn, three expansions",
+        project: &TWO_IN_TURN,
+        nodes: 3,
+        verdict: Verdict::Limit {
+            duration: Some(5),
+            lower: 4,
+        },
+        log: &[
+            (0, 0, None, EXPANDED),
+            (1, 1, Some(0), EXPANDED),
+            (2, 1, Some(0), EXPANDED),
+            (3, 1, Some(3), Fate::TailBound),
+            (3, 1, Some(0), Fate::Left(4)),
+        ],
+    },
+    Case {
+        name: "jobs without length",
+        project: &NO_LENGTH,
+        nodes: 100000,
+        verdict: Verdict::Optimal { duration: 5 },
+        log: &[
+            (0, 0, None, EXPANDED),
+            (3, 1, Some(0), EXPANDED),
+            (2, 1, Some(0), EXPANDED),
+            (1, 1, Some(0), EXPANDED),
+            (4, 1, Some(0), EXPANDED),
+            (5, 1, Some(3), Fate::Leaf),
+            (5, 1, Some(0), EXPANDED),
+            (4, 1, Some(2), Fate::Leaf),
+            (5, 1, Some(0), EXPANDED),
+            (1, 1, Some(0), Fate::Cutset(7)),
+            (5, 1, Some(0), EXPANDED),
+            (2, 1, Some(0), Fate::Cutset(9)),
+            (5, 1, Some(0), EXPANDED),
+            (3, 1, Some(0), Fate::Cutset(11)),
+        ],
+    },
+    Case {
+        name: "twins",
+        project: &TWINS,
+        nodes: 100000,
+        verdict: Verdict::Optimal { duration: 6 },
+        log: &[
+            (0, 0, None, EXPANDED),
+            (1, 1, Some(0), EXPANDED),
+            (2, 1, Some(0), EXPANDED),
+            (3, 1, Some(0), EXPANDED),
+            (4, 1, Some(1), EXPANDED),
+            (5, 1, Some(4), Fate::TailBound),
+            (5, 1, Some(1), EXPANDED),
+            (4, 1, Some(3), Fate::TailBound),
+            (3, 1, Some(0), EXPANDED),
+            (2, 1, Some(0), Fate::Cutset(4)),
+        ],
+    },
+    Case {
+        name: "short or cheap",
+        project: &SHORT_OR_CHEAP,
+        nodes: 100000,
+        verdict: Verdict::Optimal { duration: 4 },
+        log: &[
+            (0, 0, None, EXPANDED),
+            (1, 1, Some(0), EXPANDED),
+            (2, 1, Some(0), EXPANDED),
+            (3, 1, None, Fate::Budget(1)),
+            (3, 2, Some(0), Fate::TailBound),
+            (2, 2, Some(0), Fate::TailBound),
+            (3, 1, Some(0), EXPANDED),
+            (2, 1, None, Fate::Budget(1)),
+            (2, 2, Some(0), Fate::TailBound),
+            (3, 2, Some(0), Fate::TailBound),
+        ],
+    },
+];
+
+fn line_of(line: &LogLine) -> Line {
+    (line.job, line.mode, line.start, line.fate)
+}
+
+fn compare(rt: &impl Abort, case: &Case, found: &Found) {
+    assert_eq!(rt; found.verdict, case.verdict, "{}", case.name);
+    let lines = found.log.as_slice();
+    assert_eq!(rt; lines.len(), case.log.len(), "{}", case.name);
+    for (line, expected) in lines.iter().zip(case.log) {
+        assert_eq!(rt; line_of(line), *expected, "{}", case.name);
+    }
+    for origin in found.origins.as_slice() {
+        assert!(rt; origin.worker < 2, "{}", case.name);
+    }
+}
+
+#[test]
+fn searches_of_one_worker(rt: HostRuntime) -> Result<(), Fail> {
+    for case in &CASES {
+        let project = build(rt.alloc(), case.project)?;
+        let found = search(rt.alloc(), &project, &mut Crew, case.nodes)?;
+        compare(&rt, case, &found);
+    }
+    Ok(())
+}

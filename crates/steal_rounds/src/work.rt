@@ -1,0 +1,166 @@
+// What a worker does in a round.
+ghost use Rattle.std.specs.Prelude.{◌≡◌, ◌+◌, ◌≤◌, ◌<◌, [], length, All, IfOk, OnOk};
+ghost use Rattle.precedence_tree.specs.Base.{IsBaseOf};
+ghost use Rattle.precedence_tree.specs.Node.{StandsFor};
+ghost use Rattle.tree_worker.specs.Worker.{IsAtWork};
+ghost use Rattle.tree_worker.specs.Visits.{StaysOf};
+ghost use Rattle.steal_rounds.specs.Fates.{IsCitedWithin, fate_in, places_of};
+ghost use Rattle.steal_rounds.specs.Part.{part_state};
+ghost use Rattle.steal_rounds.specs.Turns.{stage_of, next_stage, KeepsPart, Counts, IsTurn};
+
+use crate::expanding::expanded;
+use crate::part::Part;
+use cutset_store::CutRecord;
+use project_net::Project;
+use sched_base::NoMemory;
+use search_log::{Fill, Origin, RowFate, Table};
+use search_rounds::{PlacedRecord, Records, WaitingNode};
+use search_table::{Pass, RoundTable};
+use shared_rows::{Cells, OnceCells, Rows};
+use std::alloc::Global;
+use tree_worker::{Cite, Close, TreeWorker, Visited};
+
+/// How many visits a worker makes in a round at most.
+const MOST_VISITS: u32 = 65536;
+
+// The fate of a node that a visit closed: a record is cited by the place of its row.
+fn fate_of(close: Close, records: &Records, made: &[PlacedRecord]) -> RowFate
+    requires { IsCitedWithin (length records.now.places) (length made.now) close }
+    ensures { result ≡ fate_in records.now.places (places_of made.now) close }
+{
+    match close {
+        Close::Leaf => RowFate::Leaf,
+        Close::TailBound => RowFate::TailBound,
+        Close::WorkBound(resource) => RowFate::WorkBound(resource),
+        Close::Cutset(Cite::Earlier(number)) => {
+            let places = records.places.as_slice();
+            RowFate::Cited(places[number as usize])
+        }
+        Close::Cutset(Cite::Own(number)) => RowFate::Cited(made[number as usize].place),
+        Close::Cutset(Cite::Live { .. }) => unreachable!(),
+    }
+}
+
+// Visits a node at a turn, and says whether the part goes on.
+fn take_turn<C: Cells<CutRecord>>(
+    alloc: Global,
+    project: &Project,
+    table: &Table,
+    records: &Records,
+    words: &RoundTable,
+    rows: &Rows<CutRecord>,
+    worker: &mut TreeWorker,
+    pass: &mut Pass,
+    cells: &mut C,
+    part: &mut Part,
+    origin: Origin,
+    next: WaitingNode,
+) -> Result<bool, NoMemory>
+    requires table { pass.old.table ≡ words.now }
+    requires work { IsAtWork project.now rows.now (record { worker = worker.old; pass = pass.old.view }) }
+    requires rows { rows.now.workers ≡ 1 }
+    requires alone { pass.old.view.number ≡ 1 }
+    requires unrefused { pass.old.view.refused ≡ 0 }
+    requires records { All (IsBaseOf project.now) records.now.index }
+    requires places { length records.now.places ≡ length records.now.index }
+    requires room { length table.now.rows ≤ 51200001 }
+    requires node { StandsFor project.now next.node }
+    requires number { origin.worker ≡ pass.old.view.number }
+    requires turn { origin.turn ≡ length part.old.fills.items + 1 }
+    requires few { origin.turn ≤ 65536 }
+    requires counts { Counts (stage_of worker.old pass.old part.old) }
+    requires others { All (λ w. StandsFor project.now w.node) part.old.source }
+    ensures table { pass.new.table ≡ pass.old.table }
+    ensures stays { StaysOf pass.old.view pass.new.view }
+    ensures nodes { OnOk result (All (λ w. StandsFor project.now w.node) part.new.source) }
+    ensures work { OnOk result (IsAtWork project.now rows.now (record { worker = worker.new; pass = pass.new.view })) }
+    ensures counts { OnOk result (Counts (stage_of worker.new pass.new part.new)) }
+    ensures turn { IfOk result (λ on. IsTurn on (stage_of worker.old pass.old part.old) (stage_of worker.new pass.new part.new)) }
+    ensures keeps { OnOk result (KeepsPart project.now table.now records.now origin (next_stage next (stage_of worker.old pass.old part.old)) (stage_of worker.new pass.new part.new)) }
+{
+    project.known();
+    let WaitingNode { place, node } = next;
+    match worker.visit(
+        alloc,
+        project,
+        words,
+        pass,
+        &records.index,
+        rows,
+        cells,
+        node,
+    )? {
+        Visited::Closed(_, close) => {
+            let fate = fate_of(close, records, part.made.as_slice());
+            part.fills.push(Fill {
+                place,
+                fate,
+                origin,
+            })?;
+            Ok(true)
+        }
+        Visited::Expanded(node, children) => {
+            let first = table.rows.len() + part.grown.as_slice().len() as u32;
+            expanded(alloc, project, part, place, &node, children, first, origin)?;
+            Ok(true)
+        }
+        Visited::Back(node) => {
+            part.source.put(WaitingNode { place, node })?;
+            Ok(false)
+        }
+    }
+}
+
+/// Visits nodes until none waits, a ticket is refused, or enough were visited.
+pub(crate) fn work(
+    alloc: Global,
+    project: &Project,
+    table: &Table,
+    records: &Records,
+    words: &RoundTable,
+    rows: &Rows<CutRecord>,
+    worker: &mut TreeWorker,
+    pass: &mut Pass,
+    part: &mut Part,
+    round: u32,
+) -> Result<(), NoMemory>
+    requires table { pass.old.table ≡ words.now }
+    requires work { IsAtWork project.now rows.now (record { worker = worker.old; pass = pass.old.view }) }
+    requires rows { rows.now.workers ≡ 1 }
+    requires alone { pass.old.view.number ≡ 1 }
+    requires unrefused { pass.old.view.refused ≡ 0 }
+    requires records { All (IsBaseOf project.now) records.now.index }
+    requires places { length records.now.places ≡ length records.now.index }
+    requires room { length table.now.rows ≤ 51200001 }
+    requires nodes { All (λ w. StandsFor project.now w.node) part.old.source }
+    requires fresh { part.old.fills.items ≡ [] }
+    requires counts { Counts (stage_of worker.old pass.old part.old) }
+    ensures table { pass.new.table ≡ pass.old.table }
+    ensures stays { StaysOf pass.old.view pass.new.view }
+    ensures nodes { OnOk result (All (λ w. StandsFor project.now w.node) part.new.source) }
+    ensures work { OnOk result (IsAtWork project.now rows.now (record { worker = worker.new; pass = pass.new.view })) }
+    ensures counts { OnOk result (Counts (stage_of worker.new pass.new part.new)) }
+    ensures moves { OnOk result (0 < length part.old.source → 0 < length part.new.fills.items + pass.new.view.refused) }
+    ensures keeps { OnOk result (KeepsPart project.now table.now records.now (record { round = round; worker = pass.old.view.number; turn = 0 }) (stage_of worker.old pass.old part.old) (stage_of worker.new pass.new part.new)) }
+{
+    let mut cells = OnceCells::new();
+    let number = pass.number();
+    for done in 0..MOST_VISITS {
+        let next = match part.source.take() {
+            Some(next) => next,
+            None => return Ok(()),
+        };
+        let origin = Origin {
+            round,
+            worker: number,
+            turn: done + 1,
+        };
+        if !take_turn(
+            alloc, project, table, records, words, rows, worker, pass, &mut cells, part, origin,
+            next,
+        )? {
+            return Ok(());
+        }
+    }
+    Ok(())
+}
