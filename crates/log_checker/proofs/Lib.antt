@@ -14,3 +14,5 @@ pub mod SoundVerdicts
 pub mod OneOutcomes
 pub mod AcceptedReports
 pub mod AcceptedForms
+pub mod TakenReports
+pub mod TakenHeads
