@@ -5,6 +5,7 @@ use Rattle.std.specs.List.{AllByRecursion}
 use Rattle.std.proofs.lemmas.Bool.Decides.{nat_tests}
 use Rattle.std.proofs.lemmas.List.Elements.{recursion_from_All, All-from_recursion}
 use Rattle.rcpsp_model.specs.declared.parts.Placing.{Placing}
+use Rattle.rcpsp_model.specs.declared.parts.Verdict.{Verdict}
 use Rattle.rcpsp_model.specs.Project.{Project, IsWithinLimits, IsJob, IsMode, job_count}
 use Rattle.rcpsp_model.specs.Schedule.{entries_from}
 use Rattle.rcpsp_model.specs.Claim.{HasDuration}
@@ -18,8 +19,9 @@ use Rattle.proof_log.specs.Report.{duration_of, letter_of, IsInnerLine, IsLog, I
 use Rattle.proof_log.specs.Text.{best_part, log_words, log_lines}
 use Rattle.proof_log.proofs.WrittenParts.{jobs_from}
 use Rattle.log_truth.specs.Log.{Branch, at_root, by_choice, is_expanded, front_at, below, IsLineAt, AreLogs, IsTreeLog}
+use Rattle.log_truth.specs.Holds.{Accepts}
 use Rattle.log_truth.proofs.JoinedLogs.{below-is}
-use Rattle.log_checker.specs.Laws.{AcceptsLaw}
+use Rattle.log_checker.specs.Checker.{IsAcceptedAs, AcceptsAs}
 use Rattle.log_checker.proofs.SoundVerdicts.{best_of}
 use Rattle.log_checker.proofs.AcceptedReports.{report_told, accepted_told, report_holds}
 
@@ -122,9 +124,10 @@ log-is P (l ∷ ls) limits logs all =
 some-same : (a b : List LogLine) → Some a ≡ Some b → a ≡ b
 some-same a b e = cc
 
-pub accepts_law : AcceptsLaw
+-- what is accepted is the text of a report that holds
+pub accepted-text : (P : Project) (bytes : List ℕ) (v : Verdict) → IsWithinLimits P → IsAcceptedAs P bytes v → AcceptsAs P bytes v
 unfolding report_told
-accepts_law P bytes v limits a =
+accepted-text P bytes v limits a =
     let told = accepted_told P bytes v a in
     let holds = report_holds P bytes v a in
     let places = a.progress.places in
@@ -135,10 +138,11 @@ accepts_law P bytes v limits a =
     let schedule = schedule-is P (duration_of v) places limits holds.best (all-left IsLine best_lines log_end rest) in
     let said = all-left IsLine (texts.LogYes ∷ log_lines lines) (texts.End ∷ []) (all-right IsLine best_lines log_end rest) in
     let log = log-is P lines limits (subst (IsTreeLog P) (sym (some-same lines holds.lines holds.is_its)) holds.log.log) said.1 in
-    record {
+    let text : Accepts P bytes = record {
       report = report_told v a.progress;
       form = record { duration = told.lines.1.1.0; lower = told.lines.1.1.1.0; has_best = schedule.has_best; best = schedule.plan; log = log.0 };
       narrow = record { modes = schedule.modes; log = log.1 };
       text = told.text;
       holds = holds;
-    }
+    } in
+    record { accepts = text; is_its = refl }

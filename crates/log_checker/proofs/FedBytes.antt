@@ -73,11 +73,11 @@ fed-long line piece h = elim (cases_lt 64 (length line + line_len piece)) [
 ]
 
 -- the beginning of a line that is short enough, before the last line
-quiet-short : (p : Progress) (rest : List ℕ) → is_ended p.stage ≡ false → length rest ≤ 64 → IsQuiet p rest
+pub quiet-short : (p : Progress) (rest : List ℕ) → is_ended p.stage ≡ false → length rest ≤ 64 → IsQuiet p rest
 quiet-short p rest off short _ (behind_end e some) = let bad : true ≡ false = sym e ∙ off in cc
 quiet-short p rest off short _ (too_long x long) = omega arith
 
-quiet-none : (p : Progress) → IsQuiet p []
+pub quiet-none : (p : Progress) → IsQuiet p []
 quiet-none p _ (behind_end e some) = omega arith
 quiet-none p _ (too_long x long) = omega arith
 

@@ -16,3 +16,8 @@ pub mod AcceptedReports
 pub mod AcceptedForms
 pub mod TakenReports
 pub mod TakenHeads
+pub mod TakenTexts
+pub mod DecidedPlans
+pub mod DecidedSteps
+pub mod ShownFaults
+pub mod ExactVerdicts

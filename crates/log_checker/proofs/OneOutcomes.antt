@@ -61,10 +61,10 @@ number-back n = at_ (n == 0) (λ e. grind (arith, nat_tests))
     at_ true e = sym (e refl)
     at_ false e = refl
 
-line_by : LogWords → LogLine
+pub line_by : LogWords → LogLine
 line_by w = record { job = number_by w.job; mode = number_by w.mode; start = w.start; fate = fate_by w.letter w.number }
 
-line-back : (l : LogLine) → line_by (log_words l) ≡ l
+pub line-back : (l : LogLine) → line_by (log_words l) ≡ l
 unfolding line_by
 line-back l =
     ap (λ (j : ℕ). let x : LogLine = record { job = j; mode = number_by (from_one l.mode); start = l.start; fate = fate_by (letter_of l.fate) (fate_number l.fate) } in x) (number-back l.job)
@@ -168,7 +168,7 @@ first-one P B one p i (l ∷ ls) m n r s (inr f) (inr g) =
     first-one P B one g.0 (i + 1) ls m n r s (subst (λ (x : Progress). IsFirst P B x (i + 1) ls m r) (ok-one P p f.0 g.0 l f.1 g.1) f.2) g.2
 
 -- where lines lead on, what comes behind them is broken first
-first-behind : (P : Project) (B : Progress → ℕ → ℕ → Reason → Type 0) (p q : Progress) (i : ℕ) (ls : List (List ℕ)) (n : ℕ) (r : Reason) → Leads P p ls q → IsFirst P B p i ls n r → (j : ℕ) × B q j n r
+pub first-behind : (P : Project) (B : Progress → ℕ → ℕ → Reason → Type 0) (p q : Progress) (i : ℕ) (ls : List (List ℕ)) (n : ℕ) (r : Reason) → Leads P p ls q → IsFirst P B p i ls n r → (j : ℕ) × B q j n r
 first-behind P B p q i [] n r f g = (i, subst (λ (x : Progress). B x i n r) f g)
 first-behind P B p q i (l ∷ ls) n r f (inl g) = absurd (not-both P p f.0 l r f.1 g.1)
 first-behind P B p q i (l ∷ ls) n r f (inr g) = first-behind P B f.0 q (i + 1) ls n r f.2 (subst (λ (x : Progress). IsFirst P B x (i + 1) ls n r) (ok-one P p g.0 f.0 l g.1 f.1) g.2)

@@ -137,7 +137,7 @@ line-step P p q (stages.Job v) o e h s = job-step P p q v o h s
 line-step P p q (stages.Line v) o e h s = wanted-step P p q v s.0 o e h.0 s.1 s.2
 line-step P p q (stages.Ended v) o e h s = absurd (cc)
 
-step-settled : (P : Project) (p q : Progress) (w : List ℕ) → SettledBy P p → IsStep P p w (Ok q) → SettledBy P q
+pub step-settled : (P : Project) (p q : Progress) (w : List ℕ) → SettledBy P p → IsStep P p w (Ok q) → SettledBy P q
 step-settled P p q w h s = elim s.outcome [
   | inl x ↦ absurd (cc (x.1))
   | inr x ↦ elim x.1 [ inl y ↦ absurd (cc (y.1)) | inr y ↦ line-step P p q p.stage y.1.0 refl h y.1.2 ]

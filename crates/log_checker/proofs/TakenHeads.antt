@@ -1,5 +1,5 @@
 -- The lines of a report before its log lead on to the log.
-use Rattle.std.proofs.Common.{◌≡◌, ℕ, ◌+◌, ◌<◌, inr, arith, refl, sym, ap, subst, ◌∙◌, append_assoc, length-append, List, [], ◌∷◌, ◌++◌, length, map, Bool, true, false, Option, Some, None}
+use Rattle.std.proofs.Common.{◌≡◌, ℕ, ◌+◌, ◌<◌, inr, arith, refl, sym, ap, subst, ◌∙◌, append_assoc, length-append, List, [], ◌∷◌, ◌++◌, length, map, Bool, true, false, Some}
 use Rattle.std.specs.Prelude.{◌==◌, if◌then◌else◌}
 use Rattle.std.specs.List.{AllByRecursion}
 use Rattle.std.proofs.lemmas.Bool.{eqb-true}

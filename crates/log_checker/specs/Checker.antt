@@ -1,11 +1,13 @@
 -- For which bytes a checker stands.
-use Rattle.std.specs.Prelude.{◌≡◌, ℕ, ◌+◌, ◌≤◌, min, Option, Some, None, Result, Ok, Err, List, [], ◌++◌, length, take}
+use Rattle.std.specs.Prelude.{◌≡◌, ℕ, ◌+◌, ◌≤◌, ◌↔◌, min, Option, Some, None, Result, Ok, Err, List, [], ◌++◌, length, take}
+use Rattle.std.specs.Result.{IsOk}
 use Rattle.rcpsp_model.specs.declared.parts.Verdict.{Verdict}
 use Rattle.rcpsp_model.specs.Project.{Project}
+use Rattle.rcpsp_model.specs.Claim.{Claim}
 use Rattle.proof_log.specs.declared.line_reader.LineStep.{LineStep}
 use Rattle.proof_log.specs.declared.line_reader.LineStep.TheVariants.{More, Line, TooLong}
 use Rattle.proof_log.specs.Lines.{ReaderState}
-use Rattle.log_truth.specs.Holds.{AreServed, HasLower}
+use Rattle.log_truth.specs.Holds.{AreServed, HasLower, Accepts}
 use Rattle.log_checker.specs.declared.refused.Refused.{Refused}
 use Rattle.log_checker.specs.declared.refused.Refused.TheVariants.{Report, NoMemory}
 use Rattle.log_checker.specs.declared.course.Course.{Course}
@@ -93,6 +95,18 @@ abbrev pub IsAfter : Project → ReaderState → ℕ → Course → List ℕ →
 IsAfter P reader number course bytes None = Runs P reader number course bytes
 IsAfter P reader number course bytes (Some refused) = RefusedAs P bytes refused
 
+-- as soon as the bytes show it: no refusal exactly where they break no rule yet, and a line and a reason exactly where these are
+-- the first that they break
+pub record IsShown (P : Project) (bytes : List ℕ) (out : Result (Unit {0}) Refused) : Type 0 where
+  pub unbroken : IsOk out ↔ ((line : ℕ) (reason : Reason) → IsBroken P bytes line reason → ⊥)
+  pub broken : (line number : ℕ) → (out ≡ Err (Report line number)) ↔ Breaks P bytes line number
+
+-- it is shown, unless memory was refused
+abbrev pub IsFed : Project → List ℕ → Result (Unit {0}) Refused → Type 0
+IsFed P bytes (Ok done) = IsShown P bytes (Ok done)
+IsFed P bytes (Err (Report line number)) = IsShown P bytes (Err (Report line number))
+IsFed P bytes (Err NoMemory) = Unit {0}
+
 -- At the end.
 
 -- the bytes are an accepted report: they end with the last line, each citation serves, and the lower bound is right
@@ -104,8 +118,30 @@ pub record IsAcceptedAs (P : Project) (bytes : List ℕ) (verdict : Verdict) : T
   pub served : AreServed P progress.lines
   pub lower : HasLower verdict progress.lines
 
+-- the line and the number of the reason for which the whole text is refused
+abbrev pub IsRefusedAs : Project → List ℕ → ℕ → ℕ → Type 0
+IsRefusedAs P bytes line number = (reason : Reason) × (number ≡ number_of reason) × IsRefusal P bytes line reason
+
 -- the bytes are accepted; or they are refused, with the first rule that they break; or memory was refused
+abbrev pub IsOutcome : Project → List ℕ → Result Verdict Refused → Type 0
+IsOutcome P bytes (Ok verdict) = IsAcceptedAs P bytes verdict
+IsOutcome P bytes (Err (Report line number)) = IsRefusedAs P bytes line number
+IsOutcome P bytes (Err NoMemory) = Unit {0}
+
+-- the bytes are the text of a report of this verdict that holds
+pub record AcceptsAs (P : Project) (bytes : List ℕ) (verdict : Verdict) : Type 0 where
+  pub accepts : Accepts P bytes
+  pub is_its : accepts.report.verdict ≡ verdict
+
+-- a verdict exactly where the bytes are the text of a report of this verdict that holds; and a line and a reason exactly where
+-- these are the first that the text breaks. What a text that is accepted claims, with the schedule in it, is true
+pub record IsJudgement (P : Project) (bytes : List ℕ) (out : Result Verdict Refused) : Type 0 where
+  pub accepted : (verdict : Verdict) → (out ≡ Ok verdict) ↔ AcceptsAs P bytes verdict
+  pub refused : (line number : ℕ) → (out ≡ Err (Report line number)) ↔ IsRefusedAs P bytes line number
+  pub claim : (text : Accepts P bytes) → Claim P text.report.verdict text.report.best
+
+-- the bytes are judged, unless memory was refused
 abbrev pub IsFinished : Project → List ℕ → Result Verdict Refused → Type 0
-IsFinished P bytes (Ok verdict) = IsAcceptedAs P bytes verdict
-IsFinished P bytes (Err (Report line number)) = (reason : Reason) × (number ≡ number_of reason) × IsRefusal P bytes line reason
+IsFinished P bytes (Ok verdict) = IsJudgement P bytes (Ok verdict)
+IsFinished P bytes (Err (Report line number)) = IsJudgement P bytes (Err (Report line number))
 IsFinished P bytes (Err NoMemory) = Unit {0}

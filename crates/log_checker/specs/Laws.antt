@@ -1,16 +1,16 @@
 -- What the definitions of a report's refusal imply, for all projects and texts. Each is the contract of a function, and so is
 -- proved.
-use Rattle.std.specs.Prelude.{◌≡◌, ℕ, Option, List, ◌++◌}
+use Rattle.std.specs.Prelude.{◌≡◌, ℕ, ◌⊎◌, ◌↔◌, Option, List, ◌++◌}
 use Rattle.rcpsp_model.specs.declared.parts.Placing.{Placing}
 use Rattle.rcpsp_model.specs.declared.parts.Verdict.{Verdict}
-use Rattle.rcpsp_model.specs.Project.{Project, IsAcyclic, IsWithinLimits}
+use Rattle.rcpsp_model.specs.Project.{Project, IsAcyclic, IsWithinLimits, IsProject}
 use Rattle.rcpsp_model.specs.Claim.{Claim}
 use Rattle.proof_log.specs.declared.report.Report.{Report}
 use Rattle.proof_log.specs.Text.{text}
 use Rattle.log_truth.specs.Holds.{Holds, Accepts}
 use Rattle.log_checker.specs.declared.reason.Reason.{Reason}
 use Rattle.log_checker.specs.Refusal.{IsBroken, IsRefusal}
-use Rattle.log_checker.specs.Checker.{IsAcceptedAs}
+use Rattle.log_checker.specs.Checker.{IsAcceptedAs, AcceptsAs}
 
 -- what breaks a rule at once breaks it whatever comes after it
 abbrev pub StaysLaw : Type 0
@@ -37,6 +37,14 @@ OneOutcomeLaw = (P : Project) (bytes : List ℕ) → IsOneOutcome P bytes
 abbrev pub TextLaw : Type 0
 TextLaw = (P : Project) (bytes : List ℕ) (verdict : Verdict) → IsAcceptedAs P bytes verdict → (report : Report) × (report.verdict ≡ verdict) × (bytes ≡ text report) × Holds P report
 
--- and that report is one, so the text is that of a report that holds, as the truth of logs defines it
+-- and that report is one: a text is accepted exactly where it is that of a report that holds, as the truth of logs defines it
 abbrev pub AcceptsLaw : Type 0
-AcceptsLaw = (P : Project) (bytes : List ℕ) (verdict : Verdict) → IsWithinLimits P → IsAcceptedAs P bytes verdict → Accepts P bytes
+AcceptsLaw = (P : Project) (bytes : List ℕ) (verdict : Verdict) → IsWithinLimits P → IsAcceptedAs P bytes verdict ↔ AcceptsAs P bytes verdict
+
+-- a text is accepted, or something is broken first
+abbrev pub EitherLaw : Type 0
+EitherLaw = (P : Project) (bytes : List ℕ) → IsProject P → Accepts P bytes ⊎ ((n : ℕ) × (reason : Reason) × IsRefusal P bytes n reason)
+
+-- nothing is broken first exactly where the text is that of a report that holds
+abbrev pub ExactLaw : Type 0
+ExactLaw = (P : Project) (bytes : List ℕ) → IsProject P → ((n : ℕ) (reason : Reason) → IsRefusal P bytes n reason → ⊥) ↔ Accepts P bytes

@@ -34,7 +34,7 @@ impl<'p> Model for Checker<'p> {
 }
 
 impl<'p> Checker<'p> {
-    ghost use Rattle.log_checker.specs.Checker.{StandsFor, IsFinished};
+    ghost use Rattle.log_checker.specs.Checker.{StandsFor, IsFed, IsFinished};
 
     /// A checker of reports on a project, to which nothing has come; it takes no memory.
     pub fn new(alloc: Global, project: &'p Project) -> Checker<'p>
@@ -55,11 +55,12 @@ impl<'p> Checker<'p> {
     ///
     /// # Errors
     ///
-    /// [`Refused::Report`] where the bytes so far break a rule that is judged as they come, with the first such line, and
-    /// [`Refused::NoMemory`] where memory was refused.
+    /// [`Refused::Report`] exactly where the bytes so far break a rule that is judged as they come, with the first such line,
+    /// unless it is [`Refused::NoMemory`], where memory was refused.
     pub fn feed(&mut self, piece: &[u8]) -> Result<(), Refused>
         ensures project { self.new.project ≡ self.old.project }
         ensures stands { (bytes : Items ℕ) → StandsFor self.old bytes → StandsFor self.new (bytes ++ piece.now) }
+        ensures shown { (bytes : Items ℕ) → StandsFor self.old bytes → IsFed self.new.project (bytes ++ piece.now) result }
         ensures ok { OnOk result (self.new.refused ≡ None) }
         ensures err { IfErr result (λ refused. self.new.refused ≡ Some refused) }
         ensures same { IsSome self.old.refused → self.new.refused ≡ self.old.refused }
@@ -86,11 +87,13 @@ impl<'p> Checker<'p> {
     ///
     /// # Errors
     ///
-    /// [`Refused::Report`] where the text is no accepted report, with the first line that breaks a rule, and
-    /// [`Refused::NoMemory`] where memory was refused.
+    /// [`Refused::Report`] exactly where the text is no accepted report, with the first line that breaks a rule, unless it is
+    /// [`Refused::NoMemory`], where memory was refused.
     pub fn finish(self) -> Result<Verdict, Refused>
-        ensures { (bytes : Items ℕ) → StandsFor self.entry bytes → IsFinished self.entry.project bytes result }
+        ensures judged { (bytes : Items ℕ) → StandsFor self.entry bytes → IsFinished self.entry.project bytes result }
+        ensures same { (refused : Refused) → self.entry.refused ≡ Some refused → result ≡ Err refused }
     {
+        self.project.known();
         match self.refused {
             Some(refused) => Err(refused),
             None => judge_end(self.project, &self.course, self.number),

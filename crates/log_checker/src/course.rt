@@ -145,31 +145,6 @@ impl Course {
         }
     }
 
-    /// Judges the next line of the log, which is wanted.
-    fn take_wanted(
-        &mut self,
-        alloc: Global,
-        project: &Project,
-        verdict: Verdict,
-        line: ReportLine,
-    ) -> Result<Option<Reason>, NoMemory>
-        requires ready { IsReady project.now self.old }
-        requires stage { self.old.stage ≡ stages.Line verdict }
-        requires wanted { wanted_of project.now self.old.walk ≡ [] → ⊥ }
-        requires line { IsLine line }
-        ensures ready { result ≡ Ok None → IsReady project.now self.new }
-        ensures line { IfOk result (λ reason. (p : Said) → Holds project.now self.old p → Comes project.now (IsLogStep project.now p verdict (Some line)) reason self.new) }
-    {
-        match line {
-            ReportLine::Log(words) => match said(words) {
-                Some(line) => self.walk.take(alloc, project, verdict, line),
-                None => Ok(Some(Reason::WrongChild)),
-            },
-            ReportLine::End => Ok(Some(Reason::WrongChild)),
-            _ => Ok(Some(Reason::BadLine)),
-        }
-    }
-
     /// Judges the next line of the log, or the last line.
     fn take_log_line(
         &mut self,
@@ -187,7 +162,14 @@ impl Course {
         if self.walk.is_complete() {
             return Ok(self.take_end(verdict, line));
         }
-        self.take_wanted(alloc, project, verdict, line)
+        match line {
+            ReportLine::Log(words) => match said(words) {
+                Some(line) => self.walk.take(alloc, project, verdict, line),
+                None => Ok(Some(Reason::WrongChild)),
+            },
+            ReportLine::End => Ok(Some(Reason::WrongChild)),
+            _ => Ok(Some(Reason::BadLine)),
+        }
     }
 
     /// Why bytes that are no line can't stand here.

@@ -6,7 +6,7 @@ ghost use Rattle.proof_log.specs.Lines.{ReaderState};
 ghost use Rattle.log_truth.specs.Holds.{HasLower};
 ghost use Rattle.log_checker.specs.Walk.{IsLeastLeft};
 ghost use Rattle.log_checker.specs.Course.{IsReady};
-ghost use Rattle.log_checker.specs.Checker.{Runs, IsFinished};
+ghost use Rattle.log_checker.specs.Checker.{Runs, IsOutcome};
 
 use crate::course::Course;
 use crate::feeding::refusal;
@@ -41,7 +41,7 @@ fn report_line(jobs: usize, line: u32) -> u32
 /// Judges the report at its end, where its bytes break no rule yet; the number is that of the line after its whole lines.
 pub fn judge_end(project: &Project, course: &Course, number: u32) -> Result<Verdict, Refused>
     requires { IsReady project.now course.now }
-    ensures { (reader : ReaderState) (bytes : Items ℕ) → Runs project.now reader number course.now bytes → IsFinished project.now bytes result }
+    ensures { (reader : ReaderState) (bytes : Items ℕ) → Runs project.now reader number course.now bytes → IsOutcome project.now bytes result }
 {
     project.known();
     let Stage::Ended(verdict) = course.stage else {

@@ -1,6 +1,6 @@
 //! Laws of a report's refusal.
 
-ghost use Rattle.log_checker.specs.Laws.{StaysLaw, HoldsLaw, ClaimLaw, OneOutcomeLaw, TextLaw, AcceptsLaw};
+ghost use Rattle.log_checker.specs.Laws.{StaysLaw, HoldsLaw, ClaimLaw, OneOutcomeLaw, TextLaw, AcceptsLaw, EitherLaw, ExactLaw};
 
 /// What was refused stays refused, whatever comes after it.
 pub fn stays_refused()
@@ -18,8 +18,14 @@ pub fn one_outcome()
     ensures { OneOutcomeLaw }
 {}
 
-/// A text that is accepted is that of a report that holds.
+/// A text that is accepted is that of a report that holds, and each such text is accepted.
 pub fn accepted_text()
     ensures text { TextLaw }
     ensures accepts { AcceptsLaw }
+{}
+
+/// A text is accepted or refused, and nothing is broken first exactly where it is the text of a report that holds.
+pub fn exact_refusal()
+    ensures either { EitherLaw }
+    ensures exact { ExactLaw }
 {}

@@ -19,10 +19,12 @@ mod stage;
 mod walk;
 
 pub use checker::Checker;
-pub use laws::{accepted_text, one_outcome, stays_refused, true_verdict};
+pub use laws::{accepted_text, exact_refusal, one_outcome, stays_refused, true_verdict};
 pub use reason::Reason;
 pub use refused::Refused;
 pub use stage::{Kind, Stage};
 
+#[cfg(test)]
+mod expanded_tests;
 #[cfg(test)]
 mod tests;

@@ -3,7 +3,7 @@
 use crate::{Checker, Refused};
 use project_net::Project;
 use rcpsp_model::Verdict;
-use std::alloc::Global;
+use std::alloc::{AllocError, Global};
 use std::process::Abort;
 use std::test::Fail;
 use worked_projects::{NEEDS_DIFFER, TWINS, TWO_IN_TURN, build};
@@ -115,26 +115,16 @@ log yes
 end",
 };
 
-/// An edit: from a line on, some lines give way to others; and the refusal, if there is one.
-struct Case {
-    from: usize,
-    lines: usize,
-    new: &'static [&'static str],
-    refusal: Option<(u32, u8)>,
-}
+/// An edit: from which line on how many lines give way to which others; and the refusal, if there is one.
+type Edit = (usize, usize, &'static [&'static str], Option<(u32, u8)>);
 
-const ALIKE_CASES: &[Case] = &[
-    Case {
-        from: 23,
-        lines: 0,
-        new: &[],
-        refusal: None,
-    },
+const ALIKE_EDITS: &[Edit] = &[
+    (23, 0, &[], None),
     // Line 4 of the log cites a later one.
-    Case {
-        from: 15,
-        lines: 7,
-        new: &[
+    (
+        15,
+        7,
+        &[
             "3 1 0 C 6",
             "3 1 0 E",
             "2 1 0 E",
@@ -143,246 +133,123 @@ const ALIKE_CASES: &[Case] = &[
             "5 1 1 E",
             "4 1 3 T",
         ],
-        refusal: None,
-    },
-    Case {
-        from: 1,
-        lines: 1,
-        new: &["psplib-report 2"],
-        refusal: Some((1, 1)),
-    },
-    Case {
-        from: 4,
-        lines: 1,
-        new: &["lower 5"],
-        refusal: Some((4, 5)),
-    },
-    Case {
-        from: 9,
-        lines: 1,
-        new: &["job 5 1 3"],
-        refusal: Some((10, 4)),
-    },
-    Case {
-        from: 12,
-        lines: 0,
-        new: &["- - - E"],
-        refusal: Some((13, 2)),
-    },
-    Case {
-        from: 17,
-        lines: 1,
-        new: &["5 1 4 E"],
-        refusal: Some((18, 2)),
-    },
-    Case {
-        from: 16,
-        lines: 1,
-        new: &["4 1 1 T"],
-        refusal: Some((16, 3)),
-    },
-    Case {
-        from: 21,
-        lines: 1,
-        new: &["2 1 0 C 10"],
-        refusal: Some((21, 6)),
-    },
-    Case {
-        from: 21,
-        lines: 1,
-        new: &["2 1 0 C 3"],
-        refusal: Some((21, 6)),
-    },
-    Case {
-        from: 21,
-        lines: 1,
-        new: &[],
-        refusal: Some((21, 2)),
-    },
-    Case {
-        from: 22,
-        lines: 1,
-        new: &[],
-        refusal: Some((22, 7)),
-    },
-    Case {
-        from: 22,
-        lines: 0,
-        new: &["5 1 4 T"],
-        refusal: Some((22, 8)),
-    },
-    Case {
-        from: 23,
-        lines: 0,
-        new: &["end"],
-        refusal: Some((23, 8)),
-    },
+        None,
+    ),
+    (1, 1, &["psplib-report 2"], Some((1, 1))),
+    (4, 1, &["lower 5"], Some((4, 5))),
+    (9, 1, &["job 5 1 3"], Some((10, 4))),
+    (12, 0, &["- - - E"], Some((13, 2))),
+    (17, 1, &["5 1 4 E"], Some((18, 2))),
+    (16, 1, &["4 1 1 T"], Some((16, 3))),
+    (21, 1, &["2 1 0 C 10"], Some((21, 6))),
+    (21, 1, &["2 1 0 C 3"], Some((21, 6))),
+    (21, 1, &[], Some((21, 2))),
+    (22, 1, &[], Some((22, 7))),
+    (22, 0, &["5 1 4 T"], Some((22, 8))),
+    (23, 0, &["end"], Some((23, 8))),
 ];
 
-const IN_TURN_CASES: &[Case] = &[
-    Case {
-        from: 17,
-        lines: 0,
-        new: &[],
-        refusal: None,
-    },
-    Case {
-        from: 9,
-        lines: 1,
-        new: &["log no"],
-        refusal: Some((9, 1)),
-    },
-    Case {
-        from: 13,
-        lines: 1,
-        new: &["3 1 3 E"],
-        refusal: Some((14, 2)),
-    },
-    Case {
-        from: 11,
-        lines: 1,
-        new: &["1 1 0 T"],
-        refusal: Some((11, 3)),
-    },
-    Case {
-        from: 13,
-        lines: 1,
-        new: &["3 1 3 O 5"],
-        refusal: Some((13, 3)),
-    },
-    Case {
-        from: 3,
-        lines: 2,
-        new: &["duration 4", "lower 4"],
-        refusal: Some((8, 4)),
-    },
-    Case {
-        from: 7,
-        lines: 1,
-        new: &["job 3 1 2"],
-        refusal: Some((8, 4)),
-    },
-    Case {
-        from: 4,
-        lines: 1,
-        new: &["lower 4"],
-        refusal: Some((4, 5)),
-    },
-    Case {
-        from: 16,
-        lines: 1,
-        new: &[],
-        refusal: Some((16, 7)),
-    },
-    Case {
-        from: 17,
-        lines: 0,
-        new: &["end"],
-        refusal: Some((17, 8)),
-    },
+const IN_TURN_EDITS: &[Edit] = &[
+    (17, 0, &[], None),
+    (9, 1, &["log no"], Some((9, 1))),
+    (13, 1, &["3 1 3 E"], Some((14, 2))),
+    (11, 1, &["1 1 0 T"], Some((11, 3))),
+    (13, 1, &["3 1 3 O 5"], Some((13, 3))),
+    (3, 2, &["duration 4", "lower 4"], Some((8, 4))),
+    (7, 1, &["job 3 1 2"], Some((8, 4))),
+    (4, 1, &["lower 4"], Some((4, 5))),
+    (16, 1, &[], Some((16, 7))),
+    (17, 0, &["end"], Some((17, 8))),
 ];
 
-const LEFT_AT_ONCE_CASES: &[Case] = &[
-    Case {
-        from: 12,
-        lines: 0,
-        new: &[],
-        refusal: None,
-    },
-    Case {
-        from: 4,
-        lines: 1,
-        new: &["lower 3"],
-        refusal: Some((4, 5)),
-    },
-    Case {
-        from: 10,
-        lines: 1,
-        new: &["- - - O 3"],
-        refusal: Some((10, 3)),
-    },
+const LEFT_AT_ONCE_EDITS: &[Edit] = &[
+    (12, 0, &[], None),
+    (4, 1, &["lower 3"], Some((4, 5))),
+    (10, 1, &["- - - O 3"], Some((10, 3))),
 ];
 
-const TWO_MODES_CASES: &[Case] = &[
-    Case {
-        from: 30,
-        lines: 0,
-        new: &[],
-        refusal: None,
-    },
+const TWO_MODES_EDITS: &[Edit] = &[
+    (30, 0, &[], None),
     // Of the cited front only the used need is greater.
-    Case {
-        from: 28,
-        lines: 1,
-        new: &["2 2 0 C 4"],
-        refusal: Some((28, 6)),
-    },
+    (28, 1, &["2 2 0 C 4"], Some((28, 6))),
 ];
 
-/// Feeds a line with its LF, in pieces of so many bytes.
-fn feed(checker: &mut Checker<'_>, line: &str, size: usize) {
-    for piece in line.as_bytes().chunks(size.max(1)) {
+fn append_lines(text: &mut Vec<u8>, lines: &[&str]) -> Result<(), AllocError> {
+    for line in lines {
+        text.extend_from_slice(line.as_bytes())?;
+        text.push(b'\n')?;
+    }
+    Ok(())
+}
+
+/// The text of a report with an edit, which may come after its last line.
+fn edited(alloc: Global, report: &str, edit: &Edit) -> Result<Vec<u8>, AllocError> {
+    let (from, gone, new, _) = *edit;
+    let mut text = Vec::new(alloc);
+    let mut number = 0;
+    for (index, line) in report.split('\n').enumerate() {
+        number = index + 1;
+        if number == from {
+            append_lines(&mut text, new)?;
+        }
+        if number < from || from.saturating_add(gone) <= number {
+            append_lines(&mut text, &[line])?;
+        }
+    }
+    if number < from {
+        append_lines(&mut text, new)?;
+    }
+    Ok(text)
+}
+
+/// What a checker says of a text that comes in pieces of so many bytes.
+fn judged(alloc: Global, project: &Project, text: &[u8], size: usize) -> Result<Verdict, Refused> {
+    let mut checker = Checker::new(alloc, project);
+    for piece in text.chunks(size.max(1)) {
         let _ = checker.feed(piece);
     }
-    let _ = checker.feed(b"\n");
+    checker.finish()
 }
 
-fn feed_all(checker: &mut Checker<'_>, lines: &[&str], size: usize) {
-    for line in lines {
-        feed(checker, line, size);
-    }
-}
-
-/// Feeds a report with an edit, which may come after its last line.
-fn feed_case(checker: &mut Checker<'_>, report: &str, case: &Case, size: usize) {
-    let mut last = 0;
-    for (index, line) in report.split('\n').enumerate() {
-        last = index + 1;
-        if last == case.from {
-            feed_all(checker, case.new, size);
-        }
-        if last < case.from || case.from.saturating_add(case.lines) <= last {
-            feed(checker, line, size);
-        }
-    }
-    if last < case.from {
-        feed_all(checker, case.new, size);
-    }
-}
-
-/// Tries each case in whole lines and in single bytes.
-fn try_cases(rt: &impl Abort, alloc: Global, project: &Project, worked: &Worked, cases: &[Case]) {
-    for case in cases {
-        let expected = match case.refusal {
+/// Tries each edit of a report, whole and in single bytes.
+fn try_edits(
+    rt: &impl Abort,
+    alloc: Global,
+    project: &Project,
+    worked: &Worked,
+    edits: &[Edit],
+) -> Result<(), AllocError> {
+    for edit in edits {
+        let expected = match edit.3 {
             Some((line, reason)) => Err(Refused::Report { line, reason }),
             None => Ok(worked.verdict),
         };
-        for size in [64, 1] {
-            let mut checker = Checker::new(alloc, project);
-            feed_case(&mut checker, worked.report, case, size);
-            assert_eq!(rt; checker.finish(), expected);
+        let text = edited(alloc, worked.report, edit)?;
+        for size in [text.len(), 1] {
+            assert_eq!(rt; judged(alloc, project, &text, size), expected);
         }
     }
+    Ok(())
 }
 
 #[test]
 fn reports_on_twins(rt: HostRuntime) -> Result<(), Fail> {
     let project = build(rt.alloc(), &TWINS)?;
-    try_cases(&rt, rt.alloc(), &project, &ALIKE, ALIKE_CASES);
+    try_edits(&rt, rt.alloc(), &project, &ALIKE, ALIKE_EDITS)?;
     Ok(())
 }
 
 #[test]
 fn reports_on_two_in_turn(rt: HostRuntime) -> Result<(), Fail> {
     let project = build(rt.alloc(), &TWO_IN_TURN)?;
-    try_cases(&rt, rt.alloc(), &project, &IN_TURN, IN_TURN_CASES);
-    try_cases(&rt, rt.alloc(), &project, &LEFT_AT_ONCE, LEFT_AT_ONCE_CASES);
+    try_edits(&rt, rt.alloc(), &project, &IN_TURN, IN_TURN_EDITS)?;
+    try_edits(&rt, rt.alloc(), &project, &LEFT_AT_ONCE, LEFT_AT_ONCE_EDITS)?;
     Ok(())
 }
 
 #[test]
 fn reports_on_needs(rt: HostRuntime) -> Result<(), Fail> {
     let project = build(rt.alloc(), &NEEDS_DIFFER)?;
-    try_cases(&rt, rt.alloc(), &project, &TWO_MODES, TWO_MODES_CASES);
+    try_edits(&rt, rt.alloc(), &project, &TWO_MODES, TWO_MODES_EDITS)?;
     Ok(())
 }
