@@ -7,5 +7,3 @@ pub mod EndedTables
 pub mod FoundReports
 pub mod SoonEnds
 pub mod ReportForms
-pub mod VisitRounds
-pub mod VisitCases

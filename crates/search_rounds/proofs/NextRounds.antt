@@ -27,8 +27,8 @@ use Rattle.search_rounds.specs.declared.round.PlacedRecord.{PlacedRecord}
 use Rattle.search_rounds.specs.declared.round.Terms.{Terms}
 use Rattle.search_rounds.specs.declared.round.RoundResult.{RoundResult}
 use Rattle.search_rounds.specs.Round.{waiting_of, rows_after, origins_after, BringsPlan, IsAmong, IsRoundOn}
-use Rattle.search_rounds.specs.Going.{IsSaid, IsLeanSoFar, Goes, best_after, work}
-use Rattle.search_rounds.proofs.TablesAfter.{Step, after, size-after, origins-size, cites-after, records-after, left-few, none-grown, said-expanded}
+use Rattle.search_rounds.specs.Going.{IsSaid, IsLeanSoFar, Goes, best_after, work, holding, AreTerms, HasRun}
+use Rattle.search_rounds.proofs.TablesAfter.{Step, after, size-after, origins-size, cites-after, records-after, left-few, none-grown, said-expanded, all-places_fit}
 use Rattle.search_rounds.proofs.LeanRounds.{lean-after, few-after, few-none}
 
 abbrev pub terms_by : ℕ → ℕ → Search → Terms
@@ -119,6 +119,54 @@ nearer P w nodes number quota s r limits small g h e room most =
       | inl none ↦ (let grown = none-grown P w s.table g.tree s.records s.frontier te r k none in omega arith)
       | inr some ↦ omega arith
     ]
+
+-- A round that took the frontier.
+
+ran-terms : (nodes : ℕ) (s : Search) (t : Terms) → AreTerms nodes s t → t ≡ terms_by t.number t.quota s
+ran-terms nodes s t is = let with : Option ℕ → Terms = λ b. record { number = t.number; quota = t.quota; best = b } in ap with is.best
+
+ran-round : (P : Project) (w nodes : ℕ) (s : Search) (frontier : List WaitingNode) (t : Terms) (r : RoundResult) → HasRun P w nodes s frontier t r →
+    IsRoundOn P w s.table s.records frontier (terms_by t.number t.quota s) r
+ran-round P w nodes s frontier t r h = subst (λ (x : Terms). IsRoundOn P w s.table s.records frontier x r) (ran-terms nodes s t h.terms_are) h.round
+
+pub ran-goes : (P : Project) (w nodes : ℕ) (s : Search) (frontier : List WaitingNode) (t : Terms) (r : RoundResult) → HasRun P w nodes s frontier t r → Goes P w nodes (search_after s r)
+ran-goes P w nodes s frontier t r h =
+    goes_on P w nodes t.number t.quota (holding frontier s) r h.before (ran-round P w nodes s frontier t r h) h.terms_are.number h.terms_are.left h.terms_are.few
+
+pub ran-nearer : (P : Project) (w nodes : ℕ) (s : Search) (frontier : List WaitingNode) (t : Terms) (r : RoundResult) → IsWithinLimits P → HasRun P w nodes s frontier t r →
+    work nodes (search_after s r) < work nodes (holding frontier s)
+ran-nearer P w nodes s frontier t r limits h =
+    nearer P w nodes t.number t.quota (holding frontier s) r limits h.small h.before (ran-round P w nodes s frontier t r h) h.terms_are.number h.terms_are.left h.terms_are.few
+
+-- the step of the table
+ran-step : (P : Project) (w nodes : ℕ) (s : Search) (frontier : List WaitingNode) (t : Terms) (r : RoundResult) → (h : HasRun P w nodes s frontier t r) →
+    Step P w s.table h.before.tree s.records frontier (terms_by t.number t.quota s) r
+ran-step P w nodes s frontier t r h = step_of P w nodes t.number t.quota (holding frontier s) r h.before (ran-round P w nodes s frontier t r h)
+
+pub ran-rows : (P : Project) (w nodes : ℕ) (s : Search) (frontier : List WaitingNode) (t : Terms) (r : RoundResult) → IsWithinLimits P → HasRun P w nodes s frontier t r →
+    length s.table.rows + length r.grown ≤ 51200001
+ran-rows P w nodes s frontier t r limits h =
+    let fits = rooms P w nodes (search_after s r) limits h.small (ran-goes P w nodes s frontier t r h) in
+    let size = size-after s.table.rows r in
+    omega arith
+
+pub ran-places : (P : Project) (w nodes : ℕ) (s : Search) (frontier : List WaitingNode) (t : Terms) (r : RoundResult) → HasRun P w nodes s frontier t r →
+    All (λ f. f.place < length s.table.rows + length r.grown) r.fills
+ran-places P w nodes s frontier t r h =
+    all-places_fit P w s.table h.before.tree s.records frontier (terms_by t.number t.quota s) r (ran-step P w nodes s frontier t r h)
+
+pub ran-used : (P : Project) (w nodes : ℕ) (s : Search) (frontier : List WaitingNode) (t : Terms) (r : RoundResult) → HasRun P w nodes s frontier t r → s.used + r.used ≤ 100000
+ran-used P w nodes s frontier t r h =
+    let few = (ran-goes P w nodes s frontier t r h).few in
+    let small = h.small in
+    omega arith
+
+pub ran-records : (P : Project) (w nodes : ℕ) (s : Search) (frontier : List WaitingNode) (t : Terms) (r : RoundResult) → HasRun P w nodes s frontier t r → length s.records.index + length r.made ≤ 100000
+ran-records P w nodes s frontier t r h =
+    let used = ran-used P w nodes s frontier t r h in
+    let made = (ran-step P w nodes s frontier t r h).round.made_few in
+    let recorded = h.before.recorded in
+    omega arith
 
 -- The root waits.
 

@@ -1,6 +1,6 @@
 -- A log that holds has the form of a log, and what was found is a report that has a text.
-use Rattle.std.proofs.Common.{◌≡◌, ℕ, zero, suc, ◌+◌, ◌-◌, ◌<◌, ◌≤◌, ◌⊎◌, inl, inr, refl, sym, ap, subst, ◌∙◌, arith, List, [], ◌∷◌, ◌++◌, length, length-append, map, Bool, true, false, not, Option, Some, None}
-use Rattle.std.specs.Prelude.{All, IfSome, Contains, is_some, slice_get}
+use Rattle.std.proofs.Common.{◌≡◌, ℕ, zero, suc, ◌+◌, ◌<◌, ◌≤◌, inl, inr, refl, sym, ap, subst, arith, List, [], ◌∷◌, ◌++◌, length, map, true, false, not, Option, Some, None}
+use Rattle.std.specs.Prelude.{All, IfSome, is_some, slice_get}
 use Rattle.std.proofs.lemmas.List.Elements.{All-cons, All-head, All-nil, All-tail}
 use Rattle.sched_base.specs.declared.fate.Fate.{Fate}
 use Rattle.sched_base.specs.declared.fate.Fate.TheVariants.{Expanded, Leaf, TailBound, WorkBound, Budget, Capacity, Worse, Cutset, Left}
@@ -8,30 +8,26 @@ use Rattle.rcpsp_model.specs.declared.parts.Entry.{Entry}
 use Rattle.rcpsp_model.specs.declared.parts.Placing.{Placing}
 use Rattle.rcpsp_model.specs.declared.parts.Verdict.{Verdict}
 use Rattle.rcpsp_model.specs.declared.parts.Verdict.TheVariants.{Optimal, Infeasible, Limit}
-use Rattle.rcpsp_model.specs.Project.{Project, job_count, renewables, nonrenewables, IsMode, IsWithinLimits, IsProject}
-use Rattle.rcpsp_model.specs.Schedule.{end_of, entries, entries_from, IsOf}
+use Rattle.rcpsp_model.specs.Project.{Project, job_count, IsMode, IsWithinLimits}
+use Rattle.rcpsp_model.specs.Schedule.{entries_from, IsOf}
 use Rattle.rcpsp_model.specs.Tree.{Choice, choices, entry_at, IsFront}
 use Rattle.rcpsp_model.specs.Claim.{HasDuration}
-use Rattle.rcpsp_model.proofs.Lists.{In, In-append, In-All, All-from_In, In-from_Contains, Contains-from_In}
+use Rattle.rcpsp_model.proofs.Lists.{In, In-append, In-All, All-from_In, Contains-from_In}
 use Rattle.rcpsp_model.proofs.Choices.{choice-is, In-map, In-right}
 use Rattle.rcpsp_model.proofs.RootAndLeaves.{front-push}
 use Rattle.rcpsp_model.proofs.Fronts.{front-of}
 use Rattle.project_net.proofs.Limits.{few_modes}
 use Rattle.proof_log.specs.declared.report.LogLine.{LogLine}
-use Rattle.proof_log.specs.declared.report.Report.{Report}
 use Rattle.proof_log.specs.Line.{IsNumber, is_shut}
-use Rattle.proof_log.specs.Report.{duration_of, lower_of, letter_of, fate_number, IsRootLine, IsInnerLine, IsLog, IsPlan, IsReport}
-use Rattle.proof_log.specs.Laws.{HasBytes}
-use Rattle.log_truth.specs.Fates.{Saying, says_shut, says_late, late_left, saying, shuts}
-use Rattle.log_truth.specs.Log.{Branch, at_root, by_choice, says, is_expanded, extended_by, front_at, below, IsRootSaying, IsShutSaying, IsChildSaying, IsLineOfRoot, IsLineOfChoice, IsLineAt, AreLogs, IsTreeLog, LogNode, front_of, nodes_from, nodes}
-use Rattle.log_truth.specs.Holds.{IsLate, Allows, IsAllowed, numbered, Cites, CitesWell, IsServed, IsLeftNumber, HasLower, expanded_in, LogHolds, Holds}
+use Rattle.proof_log.specs.Report.{duration_of, lower_of, letter_of, fate_number, IsRootLine, IsInnerLine, IsPlan}
+use Rattle.log_truth.specs.Fates.{saying, shuts}
+use Rattle.log_truth.specs.Log.{Branch, at_root, by_choice, is_expanded, extended_by, front_at, below, IsRootSaying, IsShutSaying, IsChildSaying, IsLineOfRoot, IsLineOfChoice, IsLineAt, AreLogs, LogNode, front_of, nodes_from, nodes}
+use Rattle.log_truth.specs.Holds.{Allows, IsAllowed, numbered, CitesWell, IsServed, IsLeftNumber, HasLower, LogHolds}
 use Rattle.log_truth.proofs.JoinedLogs.{node-line, each-branch, below-is}
 use Rattle.log_truth.proofs.LineFronts.{IsBranch, line-front}
 use Rattle.log_truth.proofs.OneRefusal.{good_law}
 use Rattle.log_truth.proofs.FewLines.{room_law}
-use Rattle.search_rounds.specs.declared.found.Found.{Found}
-use Rattle.search_rounds.specs.Found.{report_of, IsFound}
-use Rattle.search_rounds.specs.Laws.{HasLineBytes, FormLaw, ReportLaw}
+use Rattle.search_rounds.specs.Laws.{FormLaw, ReportLaw}
 use Rattle.search_rounds.proofs.SoonEnds.{starts-soon}
 
 -- What is known of a line, whatever its branch: how many lines there are, and the numbers of those that were left.

@@ -8,7 +8,7 @@ use Rattle.rcpsp_model.specs.Tree.{IsLeaf}
 use Rattle.log_truth.specs.Fates.{Reason}
 use Rattle.log_truth.specs.Holds.{IsLate}
 use Rattle.search_log.specs.declared.row.RowFate.{RowFate}
-use Rattle.search_log.specs.declared.row.RowFate.TheVariants.{Leaf, TailBound, WorkBound, Left}
+use Rattle.search_log.specs.declared.row.RowFate.TheVariants.{Leaf, Left}
 use Rattle.search_log.specs.declared.row.Origin.{Origin}
 use Rattle.search_log.specs.declared.row.Fill.{Fill}
 use Rattle.search_log.specs.Fates.{row_late, row_saying}
@@ -45,12 +45,6 @@ IsLowered P left best least = IsLeast (IsEndOrLeft P best left) (end_number leas
 abbrev pub IsNarrow : RowFate → Type 0
 IsNarrow (Left b) = b ≤ 999999999
 IsNarrow _ = Unit {0}
-
--- a bound closes the node
-abbrev pub IsBoundFate : RowFate → Type 0
-IsBoundFate TailBound = Unit {0}
-IsBoundFate (WorkBound k) = Unit {0}
-IsBoundFate _ = ⊥
 
 -- it says that the front ends late, for a reason that holds by the best in the end
 pub record IsLateFate (P : Project) (best : Option ℕ) (F : List Entry) (fate : RowFate) : Type 0 where

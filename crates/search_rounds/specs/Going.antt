@@ -17,7 +17,10 @@ use Rattle.search_log.specs.Stands.{TreeNode, searching, IsClosed, Stands, RowsC
 use Rattle.search_log.specs.Lean.{Seen, seen_row, seen_rows, end_number, IsEnd, expands_line, most_in_round, expands_in, IsKnown, IsAfterParent}
 use Rattle.search_rounds.specs.declared.best.Best.{Best}
 use Rattle.search_rounds.specs.declared.going.Search.{Search}
-use Rattle.search_rounds.specs.Round.{waiting_of, AreRecords, IsByWorker, IsAmong}
+use Rattle.search_rounds.specs.declared.round.WaitingNode.{WaitingNode}
+use Rattle.search_rounds.specs.declared.round.Terms.{Terms}
+use Rattle.search_rounds.specs.declared.round.RoundResult.{RoundResult}
+use Rattle.search_rounds.specs.Round.{waiting_of, AreRecords, IsByWorker, IsAmong, IsRoundOn}
 
 -- something is said of the node at the place
 pub record IsSaid (T : List Row) (p : ℕ) : Type 0 where
@@ -78,3 +81,24 @@ best_after best end None = best
 -- what is still to do: expansions that are left, and then nodes that wait
 abbrev pub work : ℕ → Search → ℕ
 work nodes s = (nodes - s.used) * 4294967296 + length s.frontier
+
+-- While a round runs, the frontier of the search is with it.
+
+-- the search with this frontier
+abbrev pub holding : List WaitingNode → Search → Search
+holding frontier s = record { table = s.table; frontier = frontier; records = s.records; first = s.first; starts = s.starts; best = s.best; used = s.used }
+
+-- the terms of its next round: no more expansions than are left, nor than a round of its number may make
+pub record AreTerms (nodes : ℕ) (s : Search) (terms : Terms) : Type 0 where
+  pub number : terms.number ≡ length s.starts + 1
+  pub some : 0 < terms.quota
+  pub left : terms.quota + s.used ≤ nodes
+  pub few : terms.quota ≤ most_in_round terms.number
+  pub best : terms.best ≡ s.best.end
+
+-- a round took the frontier of the search, on these terms, and ended with r
+pub record HasRun (P : Project) (workers nodes : ℕ) (s : Search) (frontier : List WaitingNode) (terms : Terms) (r : RoundResult) : Type 0 where
+  pub before : Goes P workers nodes (holding frontier s)
+  pub terms_are : AreTerms nodes s terms
+  pub round : IsRoundOn P workers s.table s.records frontier terms r
+  pub small : nodes ≤ 100000

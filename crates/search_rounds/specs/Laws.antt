@@ -1,5 +1,5 @@
 -- What holds of all that a search finds. Each is the contract of a function, and so is proved.
-use Rattle.std.specs.Prelude.{ℕ, ◌<◌, ◌≤◌, Option, IfSome, List, All}
+use Rattle.std.specs.Prelude.{ℕ, ◌<◌, ◌≤◌, Option, List, All}
 use Rattle.rcpsp_model.specs.declared.parts.Verdict.{Verdict}
 use Rattle.rcpsp_model.specs.Project.{Project, IsProject}
 use Rattle.proof_log.specs.declared.report.LogLine.{LogLine}

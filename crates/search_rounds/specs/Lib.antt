@@ -3,4 +3,3 @@ pub mod Closing
 pub mod Going
 pub mod Found
 pub mod Laws
-pub mod OneVisit

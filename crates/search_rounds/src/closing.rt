@@ -9,7 +9,7 @@ ghost use Rattle.log_truth.specs.Holds.{Reaches};
 ghost use Rattle.precedence_tree.specs.Node.{StandsFor};
 ghost use Rattle.search_log.specs.declared.row.RowFate.TheVariants.{Leaf};
 ghost use Rattle.search_log.specs.Lean.{end_number};
-ghost use Rattle.search_rounds.specs.Closing.{EndsBefore, IsBetter, IsLowered, IsLateFate, IsBoundFate, IsCloseOf};
+ghost use Rattle.search_rounds.specs.Closing.{EndsBefore, IsBetter, IsLowered, IsLateFate, IsCloseOf};
 
 use crate::best::{Best, number_of};
 use crate::round::WaitingNode;
@@ -20,8 +20,8 @@ use sched_base::NoMemory;
 use search_log::{Fill, Origin, RowFate};
 use std::alloc::Global;
 
-/// Whether the node is a leaf that ends before the best.
-pub fn ends_before(project: &Project, node: &Node, best: Option<u32>) -> bool
+// Whether the node is a leaf that ends before the best.
+fn ends_before(project: &Project, node: &Node, best: Option<u32>) -> bool
     requires { StandsFor project.now node.now }
     ensures { IsTrue result ↔ EndsBefore project.now node.now.front best }
 {
@@ -80,10 +80,9 @@ fn reaches(bound: Option<u32>, end: u32) -> bool
 }
 
 // The first bound of a node that reaches the best, if one does.
-pub fn late_bound(project: &Project, node: &Node, end: u32) -> Option<RowFate>
+fn late_bound(project: &Project, node: &Node, end: u32) -> Option<RowFate>
     requires { StandsFor project.now node.now }
     ensures late { IfSome result (IsLateFate project.now (Some end) node.now.front) }
-    ensures bound { IfSome result IsBoundFate }
     ensures none { IfNone result ((b : ℕ) → IsLowerBound project.now node.now.front b → b < end) }
 {
     if end <= tail_bound(project, node) {

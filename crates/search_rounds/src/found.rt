@@ -1,25 +1,19 @@
-// The whole search.
-ghost use Rattle.std.specs.Prelude.{◌≡◌, ℕ, ◌<◌, ◌≤◌, ◌⊎◌, ◌↔◌, IsTrue, [], length, IfOk, IfSome, Option};
+// The end of a search.
+ghost use Rattle.std.specs.Prelude.{◌≡◌, ℕ, ◌≤◌, ◌⊎◌, [], IfOk, IfSome, Option};
 ghost use Rattle.rcpsp_model.specs.Project.{Project as ProjectValue};
-ghost use Rattle.rcpsp_model.specs.Schedule.{end_of, entries, IsFeasible};
-ghost use Rattle.rcpsp_model.specs.Tree.{LeavesBudgets};
 ghost use Rattle.rcpsp_model.specs.Bounds.{IsBudgetGap};
 ghost use Rattle.rcpsp_model.specs.Claim.{HasDuration};
-ghost use Rattle.search_rounds.specs.Going.{Goes, work};
-ghost use Rattle.search_rounds.specs.Found.{IsEnded, IsFound, IsFoundFromFirst, end_of_plan};
+ghost use Rattle.search_rounds.specs.Going.{Goes};
+ghost use Rattle.search_rounds.specs.Found.{IsEnded, IsFound};
 
 use crate::best::Best;
 use crate::closing::{closes, lowered};
-use crate::going::{Search, advance};
-use crate::round::Rounds;
-use plan_bounds::budget_gap;
-use precedence_tree::Node;
+use crate::going::Search;
 use project_net::{Project, Schedule};
 use proof_log::{Log, Verdict};
 use rcpsp_model::Shut;
 use sched_base::{List, NoMemory};
 use search_log::{Origin, Row, RowFate, Table, fill, least_left, log_of, verdict};
-use serial_scheme::first_plan;
 use std::alloc::Global;
 
 /// What a search found: what its report says, and of each line of the log who visited it and when.
@@ -120,103 +114,43 @@ fn tell(alloc: Global, nodes: u32, ended: Ended) -> Result<Found, NoMemory>
     })
 }
 
-// Whether a round is to run.
-fn has_more(going: &Search, nodes: u32) -> bool
-    ensures { IsTrue result ↔ ((0 < length going.now.frontier) × (going.now.used < nodes)) }
-{
-    0 < going.frontier.len() && going.used < nodes
+impl Search {
+    /// What a search found that runs no more rounds: what waits is closed, and the log is told.
+    ///
+    /// # Errors
+    ///
+    /// [`NoMemory`] where the rows that close what waits, or the log, can't be had.
+    pub fn finish(self, alloc: Global, project: &Project, nodes: u32) -> Result<Found, NoMemory>
+        requires few { nodes ≤ 100000 }
+        requires goes { (workers : ℕ) × Goes project.now workers nodes self }
+        requires ended { (self.frontier ≡ []) ⊎ (nodes ≤ self.used) }
+        ensures { (workers : ℕ) → Goes project.now workers nodes self → IfOk result (IsFound project.now workers self.first nodes) }
+    {
+        let ended = close(alloc, project, nodes, self)?;
+        let found = tell(alloc, nodes, ended)?;
+        Ok(found)
+    }
 }
 
-// Runs rounds while nodes wait and expansions are left.
-fn run<R: Rounds>(
+/// What the search of a project found whose root has a gap in this budget: a log of one line.
+///
+/// # Errors
+///
+/// [`NoMemory`] where the line can't be had.
+pub fn found_gap(
     alloc: Global,
     project: &Project,
-    rounds: &mut R,
     nodes: u32,
+    resource: u8,
     best: Best,
-) -> Result<Ended, NoMemory>
-    requires few { nodes ≤ 100000 }
-    requires budgets { LeavesBudgets project.now [] }
-    requires best { HasDuration project.now best.end best.plan }
-    requires soon { IfSome best.end (λ end. end ≤ 1290000) }
-    ensures { IfOk result (IsEnded project.now (R.workers rounds.old) nodes best.end) }
-{
-    let mut going = Search::begin(alloc, project, best)?;
-    'rounds: while has_more(&going, nodes) {
-        going = advance(alloc, project, rounds, nodes, going)?;
-    }
-    close(alloc, project, nodes, going)
-}
-
-// The search to its end.
-fn ended_from<R: Rounds>(
-    alloc: Global,
-    project: &Project,
-    rounds: &mut R,
-    nodes: u32,
-    best: Best,
-) -> Result<Ended, NoMemory>
-    requires few { nodes ≤ 100000 }
-    requires best { HasDuration project.now best.end best.plan }
-    requires soon { IfSome best.end (λ end. end ≤ 1290000) }
-    ensures { IfOk result (IsEnded project.now (R.workers rounds.old) nodes best.end) }
-{
-    let root = Node::root();
-    match budget_gap(project, &root) {
-        Some(resource) => shut_root(alloc, resource, best),
-        None => run(alloc, project, rounds, nodes, best),
-    }
-}
-
-// The best before the first round.
-fn begin_with(project: &Project, plan: Option<Schedule>) -> Best
-    requires feasible { IfSome plan (IsFeasible project.now) }
-    requires soon { IfSome plan (λ s. end_of project.now (entries s) ≤ 1290000) }
-    ensures end { result.end ≡ end_of_plan project.now plan }
-    ensures plan { HasDuration project.now result.end result.plan }
-    ensures soon { IfSome result.end (λ end. end ≤ 1290000) }
-{
-    match plan {
-        Some(plan) => Best {
-            end: Some(project.end(&plan)),
-            plan: Some(plan),
-        },
-        None => Best {
-            end: None,
-            plan: None,
-        },
-    }
-}
-
-/// A search in rounds from a plan, or from none, that expands at most so many nodes.
-pub fn search_from<R: Rounds>(
-    alloc: Global,
-    project: &Project,
-    rounds: &mut R,
-    nodes: u32,
-    plan: Option<Schedule>,
 ) -> Result<Found, NoMemory>
     requires few { nodes ≤ 100000 }
-    requires feasible { IfSome plan (IsFeasible project.now) }
-    requires soon { IfSome plan (λ s. end_of project.now (entries s) ≤ 1290000) }
-    ensures { IfOk result (IsFound project.now (R.workers rounds.old) (end_of_plan project.now plan) nodes) }
+    requires gap { IsBudgetGap project.now [] resource }
+    requires best { HasDuration project.now best.end best.plan }
+    requires soon { IfSome best.end (λ end. end ≤ 1290000) }
+    ensures { (workers : ℕ) → IfOk result (IsFound project.now workers best.end nodes) }
 {
-    let best = begin_with(project, plan);
-    let ended = ended_from(alloc, project, rounds, nodes, best)?;
-    tell(alloc, nodes, ended)
-}
-
-/// A search in rounds from the first plan.
-pub fn search<R: Rounds>(
-    alloc: Global,
-    project: &Project,
-    rounds: &mut R,
-    nodes: u32,
-) -> Result<Found, NoMemory>
-    requires { nodes ≤ 100000 }
-    ensures { IfOk result (IsFoundFromFirst project.now (R.workers rounds.old) nodes) }
-{
-    let plan = first_plan(alloc, project)?;
-    let found = search_from(alloc, project, rounds, nodes, plan)?;
+    let ended = shut_root(alloc, resource, best)?;
+    let found = tell(alloc, nodes, ended)?;
     Ok(found)
 }

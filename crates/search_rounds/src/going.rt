@@ -1,19 +1,23 @@
 // A search between its rounds.
-ghost use Rattle.std.specs.Prelude.{◌≡◌, ℕ, ◌+◌, ◌-◌, ◌<◌, ◌≤◌, [], ◌∷◌, ◌++◌, length, map, All, IfOk, OnOk, IfSome};
+ghost use Rattle.std.specs.Prelude.{◌≡◌, ℕ, ◌+◌, ◌<◌, ◌≤◌, ◌↔◌, List as Items, [], ◌∷◌, ◌++◌, length, map, All, IfOk, OnOk, IfSome, IsTrue};
 ghost use Rattle.rcpsp_model.specs.Tree.{LeavesBudgets};
 ghost use Rattle.rcpsp_model.specs.Claim.{HasDuration};
 ghost use Rattle.search_log.specs.Stands.{fill_rows, fill_origins};
 ghost use Rattle.search_log.specs.Lean.{end_number, most_in_round};
-ghost use Rattle.search_rounds.specs.Going.{Goes, work, best_after};
+ghost use Rattle.precedence_tree.specs.Base.{IsBaseOf};
+ghost use Rattle.precedence_tree.specs.Node.{StandsFor};
+ghost use Rattle.search_rounds.specs.declared.round.WaitingNode.{WaitingNode as WaitingState};
+ghost use Rattle.search_rounds.specs.Going.{Goes, work, best_after, holding, AreTerms, HasRun};
 
 use crate::best::{Best, number_of};
-use crate::round::{NewRow, PlacedRecord, Records, RoundResult, Rounds, Terms, WaitingNode};
+use crate::round::{NewRow, PlacedRecord, Records, RoundResult, Terms, WaitingNode};
 use cutset_store::{Index, SetPlace};
 use precedence_tree::Node;
 use project_net::{Project, Schedule};
 use sched_base::{List, NoMemory};
 use search_log::{Fill, Origin, Row, RowFate, Table, fill};
 use std::alloc::Global;
+use std::mem::replace;
 
 /// How many nodes the first round may expand, and a later one.
 const MOST_IN_FIRST: u32 = 32;
@@ -147,7 +151,11 @@ const NO_ORIGIN: Origin = Origin {
 };
 
 impl Search {
-    /// The root waits.
+    /// A search before its first round, with the best to begin with: the root waits.
+    ///
+    /// # Errors
+    ///
+    /// [`NoMemory`] where the row of the root, or the root, can't be kept.
     pub fn begin(alloc: Global, project: &Project, best: Best) -> Result<Search, NoMemory>
         requires budgets { LeavesBudgets project.now [] }
         requires best { HasDuration project.now best.end best.plan }
@@ -175,61 +183,94 @@ impl Search {
             used: 0,
         })
     }
-}
 
-/// One round.
-pub fn advance<R: Rounds>(
-    alloc: Global,
-    project: &Project,
-    rounds: &mut R,
-    nodes: u32,
-    going: Search,
-) -> Result<Search, NoMemory>
-    requires some { 0 < length going.frontier }
-    requires more { going.used < nodes }
-    requires few { nodes ≤ 100000 }
-    requires goes { Goes project.now (R.workers rounds.old) nodes going }
-    ensures goes { IfOk result (Goes project.now (R.workers rounds.old) nodes) }
-    ensures first { IfOk result (λ s. s.first ≡ going.first) }
-    ensures nearer { IfOk result (λ s. work nodes s < work nodes going) }
-    ensures workers { R.workers rounds.new ≡ R.workers rounds.old }
-{
-    let Search {
-        mut table,
-        frontier,
-        mut records,
-        first,
-        mut starts,
-        best,
-        used,
-    } = going;
-    project.known();
-    let number = starts.len() as u32 + 1;
-    let terms = Terms {
-        number,
-        quota: quota_of(number, nodes - used),
-        best: best.end,
-    };
-    note_start(&mut starts, best.end)?;
-    let ended = rounds.round(alloc, project, &table, &records, frontier, terms)?;
-    let RoundResult {
-        grown,
-        fills,
-        left,
-        made,
-        best: end,
-        plan,
-        used: more,
-    } = ended;
-    settle(&mut table, grown.as_slice(), fills.as_slice())?;
-    keep(&mut records, made)?;
-    Ok(Search {
-        table,
-        frontier: left,
-        records,
-        first,
-        starts,
-        best: brought(best, end, plan),
-        used: used + more,
-    })
+    /// Whether a round is to run: a node waits, and fewer nodes were expanded than are allowed, which are so many.
+    pub fn has_more(&self, nodes: u32) -> bool
+        ensures { IsTrue result ↔ ((0 < length self.now.frontier) × (self.now.used < nodes)) }
+    {
+        0 < self.frontier.len() && self.used < nodes
+    }
+
+    /// The terms of the next round, where so many nodes may be expanded, 100,000 at most. With them comes what a round may rely on:
+    /// of the nodes that wait, of the records, and of the room in the table.
+    pub fn next_terms(&self, project: &Project, nodes: u32) -> Terms
+        requires few { nodes ≤ 100000 }
+        requires more { self.now.used < nodes }
+        requires goes { (workers : ℕ) × Goes project.now workers nodes self.now }
+        ensures terms { AreTerms nodes self.now result }
+        ensures number { 1 ≤ result.number }
+        ensures quota { 0 < result.quota }
+        ensures few { result.quota ≤ most_in_round result.number }
+        ensures soon { IfSome result.best (λ end. end ≤ 1290000) }
+        ensures fronts { All (λ w. StandsFor project.now w.node) self.now.frontier }
+        ensures records { All (IsBaseOf project.now) self.now.records.index }
+        ensures places { length self.now.records.places ≡ length self.now.records.index }
+        ensures room { length self.now.table.rows ≤ 51200001 }
+    {
+        project.known();
+        let number = self.starts.len() as u32 + 1;
+        Terms {
+            number,
+            quota: quota_of(number, nodes - self.used),
+            best: self.best.end,
+        }
+    }
+
+    /// The nodes that wait, for a round to take. The search has none until [`Search::take_round`].
+    pub fn take_frontier(&mut self, alloc: Global) -> List<WaitingNode>
+        ensures frontier { result ≡ self.old.frontier }
+        ensures rest { self.new ≡ holding [] self.old }
+    {
+        replace(&mut self.frontier, List::new(alloc))
+    }
+
+    /// The search after a round that took its frontier, on the terms of [`Search::next_terms`].
+    ///
+    /// # Errors
+    ///
+    /// [`NoMemory`] where the table or the records can't grow.
+    pub fn take_round(
+        self,
+        alloc: Global,
+        project: &Project,
+        terms: Terms,
+        ended: RoundResult,
+    ) -> Result<Search, NoMemory>
+        requires { (workers : ℕ) × (nodes : ℕ) × (frontier : Items WaitingState) × HasRun project.now workers nodes self frontier terms ended }
+        ensures goes { IfOk result (λ s. (workers nodes : ℕ) (frontier : Items WaitingState) → HasRun project.now workers nodes self frontier terms ended → Goes project.now workers nodes s) }
+        ensures first { IfOk result (λ s. s.first ≡ self.first) }
+        ensures nearer { IfOk result (λ s. (workers nodes : ℕ) (frontier : Items WaitingState) → HasRun project.now workers nodes self frontier terms ended → work nodes s < work nodes (holding frontier self)) }
+    {
+        let Search {
+            mut table,
+            frontier: _,
+            mut records,
+            first,
+            mut starts,
+            best,
+            used,
+        } = self;
+        project.known();
+        let RoundResult {
+            grown,
+            fills,
+            left,
+            made,
+            best: end,
+            plan,
+            used: more,
+        } = ended;
+        note_start(&mut starts, terms.best)?;
+        settle(&mut table, grown.as_slice(), fills.as_slice())?;
+        keep(&mut records, made)?;
+        Ok(Search {
+            table,
+            frontier: left,
+            records,
+            first,
+            starts,
+            best: brought(best, end, plan),
+            used: used + more,
+        })
+    }
 }

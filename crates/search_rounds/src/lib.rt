@@ -1,5 +1,5 @@
-//! A search in rounds over the table of its lines, whoever runs a round: it goes on while nodes wait and expansions are left,
-//! closes what is left, and tells the log.
+//! A search in rounds over the table of its lines, between its rounds: how it begins, on what terms a round runs, what becomes of
+//! what a round ends with, and, once no more rounds are to run, what was found. A round itself is run elsewhere.
 #![tactic(auto)]
 
 mod best;
@@ -7,13 +7,13 @@ mod closing;
 mod found;
 mod going;
 mod law;
-mod one_visit;
 mod round;
 
-pub use found::{Found, search, search_from};
+pub use best::Best;
+pub use found::{Found, found_gap};
+pub use going::Search;
 pub use law::told_report;
-pub use one_visit::OneVisit;
-pub use round::{NewRow, PlacedRecord, Records, RoundResult, Rounds, Terms, WaitingNode};
+pub use round::{NewRow, PlacedRecord, Records, RoundResult, Terms, WaitingNode};
 
 #[cfg(test)]
 mod tests;

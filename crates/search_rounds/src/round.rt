@@ -1,15 +1,9 @@
-ghost use Rattle.std.specs.Prelude.{◌≡◌, ℕ, ◌<◌, ◌≤◌, length, All, IfOk, IfSome};
-ghost use Rattle.precedence_tree.specs.Base.{IsBaseOf};
-ghost use Rattle.precedence_tree.specs.Node.{StandsFor};
-ghost use Rattle.search_log.specs.Lean.{most_in_round};
-ghost use Rattle.search_rounds.specs.Round.{IsRoundOn};
-
+// What a round is given, and what it ends with.
 use cutset_store::{CutRecord, Index};
 use precedence_tree::Node;
 use project_net::{Project, Schedule};
-use sched_base::{List, NoMemory};
-use search_log::{Fill, Origin, Row, Table};
-use std::alloc::Global;
+use sched_base::List;
+use search_log::{Fill, Origin, Row};
 
 /// A front that waits to be visited, with the place of its row.
 #[derive(Drop)]
@@ -67,32 +61,4 @@ pub struct RoundResult {
     pub plan: Option<Schedule>,
     /// How many nodes were expanded.
     pub used: u32,
-}
-
-/// Whoever runs the rounds of a search.
-pub trait Rounds {
-    /// How many workers there are. They have the numbers from 1 on.
-    ghost workers: { Self → ℕ };
-
-    /// Runs a round over the nodes of a frontier, which wait in the table.
-    fn round(
-        &mut self,
-        alloc: Global,
-        project: &Project,
-        table: &Table,
-        records: &Records,
-        frontier: List<WaitingNode>,
-        terms: Terms,
-    ) -> Result<RoundResult, NoMemory>
-        requires some { 0 < length frontier }
-        requires nodes { All (λ w. StandsFor project.now w.node) frontier }
-        requires number { 1 ≤ terms.number }
-        requires quota { 0 < terms.quota }
-        requires few { terms.quota ≤ most_in_round terms.number }
-        requires soon { IfSome terms.best (λ end. end ≤ 1290000) }
-        requires records { All (IsBaseOf project.now) records.now.index }
-        requires places { length records.now.places ≡ length records.now.index }
-        requires room { length table.now.rows ≤ 51200001 }
-        ensures round { IfOk result (IsRoundOn project.now (workers self.old) table.now records.now frontier terms) }
-        ensures workers { workers self.new ≡ workers self.old };
 }

@@ -1,34 +1,19 @@
+ghost use Rattle.std.specs.Prelude.{◌≤◌, IfSome};
+ghost use Rattle.rcpsp_model.specs.Schedule.{end_of, entries, IsFeasible};
+
 use super::*;
-use project_net::Project;
+use plan_bounds::budget_gap;
+use precedence_tree::Node;
+use project_net::{Project, Schedule};
 use proof_log::Verdict;
-use sched_base::{Fate, List, NoMemory};
-use search_log::Table;
+use sched_base::{Fate, NoMemory};
+use serial_scheme::first_plan;
 use std::alloc::Global;
 use std::test::Fail;
 use worked_projects::{
     ALL_AT_ONCE, BUDGETS_ALONE, ONE_LONG_JOB, SHORT_OR_CHEAP, THREE_IN_TURN, TWO_IN_TURN,
     WorkedProject, build,
 };
-
-// Runs no round: each call wants memory.
-#[derive(Drop)]
-struct NoRounds;
-
-impl Rounds for NoRounds {
-    ghost workers = { λ _. 1 };
-
-    fn round(
-        &mut self,
-        _alloc: Global,
-        _project: &Project,
-        _table: &Table,
-        _records: &Records,
-        _frontier: List<WaitingNode>,
-        _terms: Terms,
-    ) -> Result<RoundResult, NoMemory> {
-        Err(NoMemory)
-    }
-}
 
 // A project, the verdict on it where no node may be expanded, and what then becomes of the root.
 #[derive(Clone, Copy)]
@@ -87,11 +72,49 @@ fn cases() -> [Case; 6] {
     ]
 }
 
+// A search that runs no round.
+fn without_rounds(
+    alloc: Global,
+    project: &Project,
+    plan: Option<Schedule>,
+) -> Result<Found, NoMemory>
+    requires feasible { IfSome plan (IsFeasible project.now) }
+    requires soon { IfSome plan (λ s. end_of project.now (entries s) ≤ 1290000) }
+{
+    let best = Best::of_plan(project, plan);
+    match budget_gap(project, &Node::root()) {
+        Some(resource) => found_gap(alloc, project, 0, resource, best),
+        None => Search::begin(alloc, project, best)?.finish(alloc, project, 0),
+    }
+}
+
+// The terms of the first round of a search without a plan, and how many nodes it takes; none where it doesn't run.
+fn first_round(
+    alloc: Global,
+    project: &Project,
+    nodes: u32,
+) -> Result<Option<(Terms, usize)>, NoMemory>
+    requires { nodes ≤ 100000 }
+{
+    if budget_gap(project, &Node::root()).is_some() {
+        return Ok(None);
+    }
+    let best = Best::of_plan(project, None);
+    let mut going = Search::begin(alloc, project, best)?;
+    if !going.has_more(nodes) {
+        return Ok(None);
+    }
+    let terms = going.next_terms(project, nodes);
+    let frontier = going.take_frontier(alloc);
+    Ok(Some((terms, frontier.len())))
+}
+
 #[test]
 fn the_root_alone(rt: HostRuntime) -> Result<(), Fail> {
     for case in &cases() {
         let project = build(rt.alloc(), &case.project)?;
-        let found = search(rt.alloc(), &project, &mut NoRounds, 0)?;
+        let plan = first_plan(rt.alloc(), &project)?;
+        let found = without_rounds(rt.alloc(), &project, plan)?;
         assert_eq!(rt; found.verdict, case.verdict);
         let log = found.log.as_slice();
         assert_eq!(rt; log.len(), 1);
@@ -109,14 +132,29 @@ fn the_root_alone(rt: HostRuntime) -> Result<(), Fail> {
 #[test]
 fn without_a_plan(rt: HostRuntime) -> Result<(), Fail> {
     let project = build(rt.alloc(), &TWO_IN_TURN)?;
-    let found = search_from(rt.alloc(), &project, &mut NoRounds, 0, None)?;
+    let found = without_rounds(rt.alloc(), &project, None)?;
     let limit = Verdict::Limit {
         duration: None,
         lower: 4,
     };
     assert_eq!(rt; found.verdict, limit);
     assert!(rt; found.best.is_none());
-    let wants = search(rt.alloc(), &project, &mut NoRounds, 1);
-    assert!(rt; wants.is_err());
+    Ok(())
+}
+
+#[test]
+fn the_first_round(rt: HostRuntime) -> Result<(), Fail> {
+    let project = build(rt.alloc(), &TWO_IN_TURN)?;
+    for (nodes, quota) in [(1, 1), (31, 31), (33, 32)] {
+        let taken = first_round(rt.alloc(), &project, nodes)?;
+        let terms = Terms {
+            number: 1,
+            quota,
+            best: None,
+        };
+        assert_eq!(rt; taken, Some((terms, 1)));
+    }
+    let none = first_round(rt.alloc(), &project, 0)?;
+    assert_eq!(rt; none, None);
     Ok(())
 }

@@ -1,4 +1,4 @@
-use Rattle.std.proofs.Common.{◌≡◌, ◌≤◌, arith}
+use Rattle.std.proofs.Common.{arith}
 use Rattle.rcpsp_model.proofs.Fronts.{front-end}
 use Rattle.search_rounds.proofs.closing.better.Goals as goal
 

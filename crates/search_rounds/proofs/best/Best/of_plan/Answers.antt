@@ -2,7 +2,7 @@ use Rattle.std.proofs.Common.{◌≤◌, subst, List, Option, IfSome}
 use Rattle.rcpsp_model.specs.declared.parts.Placing.{Placing}
 use Rattle.rcpsp_model.specs.Schedule.{end_of, entries}
 use Rattle.search_rounds.proofs.SoonEnds.{starts-soon}
-use Rattle.search_rounds.proofs.found.begin_with.Goals as goal
+use Rattle.search_rounds.proofs.best.Best.of_plan.Goals as goal
 
 pub end-requires-clause-starts : goal.end-requires-clause-starts
 end-requires-clause-starts c k d l =
