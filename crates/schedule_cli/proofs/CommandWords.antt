@@ -1,5 +1,5 @@
 -- Words are one command at most.
-use Rattle.std.proofs.Common.{◌≡◌, ℕ, ◌≤◌, List, [], ◌∷◌, length, None, Some, inl, inr, refl, subst, arith, codes, Bool, true, false, IsTrue}
+use Rattle.std.proofs.Common.{◌≡◌, ℕ, ◌≤◌, List, [], ◌∷◌, length, None, Some, inl, inr, refl, subst, arith, codes, true, false, IsTrue}
 use Rattle.std.proofs.lemmas.Slice.Eq.{bytes_eq-Decides}
 use Rattle.std.specs.Str.{bytes_eq}
 use Rattle.schedule_cli.specs.Words.{first_bad, bad_word, word_at, IsSolve, IsShow, IsOnProject, IsMake}

@@ -12,21 +12,26 @@ use Rattle.schedule_cli.specs.Answer.{IsOutcomeOf, IsOutcomeUnder}
 long_front : (text : List ℕ) (most : ℕ) → MOST_BYTES < most → MOST_BYTES < length text → MOST_BYTES < length (take most text)
 long_front text most more long = let n = length-take most text in omega arith
 
-pub front_outcome : (text : List ℕ) (most : ℕ) (outcome : Outcome) → MOST_BYTES < most → IsOutcomeOf (take most text) outcome → IsOutcomeOf text outcome
-front_outcome text most outcome more is = elim (cases_lt MOST_BYTES (length text)) [
+pub front_outcome : (words : List (List ℕ)) (text : List ℕ) (most : ℕ) (outcome : Outcome) → MOST_BYTES < most → IsOutcomeOf words (take most text) outcome → IsOutcomeOf words text outcome
+front_outcome words text most outcome more is = elim (cases_lt MOST_BYTES (length text)) [
   | inl long ↦ of_long outcome is (long_front text most more long) long
-  | inr short ↦ subst (λ bytes. IsOutcomeOf bytes outcome) (take_all most text (omega arith)) is
+  | inr short ↦ subst (λ bytes. IsOutcomeOf words bytes outcome) (take_all most text (omega arith)) is
 ]
   where
-    of_long : (outcome : Outcome) → IsOutcomeOf (take most text) outcome → MOST_BYTES < length (take most text) → MOST_BYTES < length text → IsOutcomeOf text outcome
+    of_long : (outcome : Outcome) → IsOutcomeOf words (take most text) outcome → MOST_BYTES < length (take most text) → MOST_BYTES < length text → IsOutcomeOf words text outcome
     of_long (Solved report) is front long = let few = is.1.has_content.few_bytes in absurd (omega arith)
     of_long (Shown printed) is front long = let few = is.1.has_content.few_bytes in absurd (omega arith)
-    of_long (BadProject f) (inl e) front long = inl (long_text text long ∙ sym (long_text (take most text) front) ∙ e)
-    of_long (BadProject f) (inr cycle) front long = let few = cycle.has_content.few_bytes in absurd (omega arith)
+    of_long (BadProject f) is front long = (
+      is.0,
+      elim is.1 [
+        | inl e ↦ inl (long_text text long ∙ sym (long_text (take most text) front) ∙ e)
+        | inr cycle ↦ let few = cycle.has_content.few_bytes in absurd (omega arith)
+      ],
+    )
 
 -- the same of the text under a name, or of the text that was read where none is told
-pub told_outcome : (texts : Option (List (List ℕ × List ℕ))) (name other bytes : List ℕ) (most : ℕ) (outcome : Outcome) → MOST_BYTES < most → name ≡ other →
-    IfSome texts (λ ts. bytes ≡ take most (text_under ts name)) → IsOutcomeOf bytes outcome → IsOutcomeUnder texts other outcome
-told_outcome None name other bytes most outcome more same read is = (bytes, is)
-told_outcome (Some ts) name other bytes most outcome more same read is =
-    subst (λ n. IsOutcomeOf (text_under ts n) outcome) same (front_outcome (text_under ts name) most outcome more (subst (λ bs. IsOutcomeOf bs outcome) read is))
+pub told_outcome : (words : List (List ℕ)) (texts : Option (List (List ℕ × List ℕ))) (name other bytes : List ℕ) (most : ℕ) (outcome : Outcome) → MOST_BYTES < most → name ≡ other →
+    IfSome texts (λ ts. bytes ≡ take most (text_under ts name)) → IsOutcomeOf words bytes outcome → IsOutcomeUnder words texts other outcome
+told_outcome words None name other bytes most outcome more same read is = (bytes, is)
+told_outcome words (Some ts) name other bytes most outcome more same read is =
+    subst (λ n. IsOutcomeOf words (text_under ts n) outcome) same (front_outcome words (text_under ts name) most outcome more (subst (λ bs. IsOutcomeOf words bs outcome) read is))

@@ -1,11 +1,9 @@
 -- What a run has to tell: the answer to its words, with its text and its status.
 use Rattle.std.specs.Prelude.{◌≡◌, ◌⊎◌, ℕ, List, [], ◌∷◌, ◌++◌, codes, decimal, Option, Some, None}
-use Rattle.sched_base.specs.Outside.{text_under}
+use Rattle.sched_base.specs.Outside.{text_under, Gains}
 use Rattle.rcpsp_model.specs.declared.parts.Verdict.{Verdict}
 use Rattle.rcpsp_model.specs.declared.parts.Verdict.TheVariants.{Optimal, Infeasible, Limit}
 use Rattle.rcpsp_model.specs.Project.{Project}
-use Rattle.rcpsp_model.specs.Plan.{IsFirstPlan}
-use Rattle.rcpsp_model.specs.Claim.{Claim}
 use Rattle.project_net.specs.Canonical.{canonical}
 use Rattle.project_gen.specs.Made.{made}
 use Rattle.psplib_layout.specs.declared.fault.Fault.{Fault}
@@ -18,10 +16,13 @@ use Rattle.schedule_cli.specs.declared.answer.Answer.{Answer}
 use Rattle.schedule_cli.specs.declared.answer.Answer.TheVariants as answers
 use Rattle.schedule_cli.specs.declared.answer.Outcome.{Outcome}
 use Rattle.schedule_cli.specs.declared.answer.Outcome.TheVariants as outcomes
+use Rattle.schedule_cli.specs.declared.solving.Request.{Request}
 use Rattle.schedule_cli.specs.declared.status.Status.{Status}
 use Rattle.schedule_cli.specs.declared.status.Status.TheVariants as statuses
-use Rattle.schedule_cli.specs.Solve.{IsLongestChain, IsVerdictOf}
-use Rattle.schedule_cli.specs.Words.{bad_word, IsSolve, IsShow, IsMake, IsOnProject, project_name, seed_in, jobs_in, modes_in}
+use Rattle.log_truth.specs.Holds.{Accepts}
+use Rattle.schedule_cli.specs.Status.{IsSolved}
+use Rattle.schedule_cli.specs.Solve.{with_log, IsSearched}
+use Rattle.schedule_cli.specs.Words.{bad_word, IsSolve, IsShow, IsMake, IsOnProject, project_name, seed_in, jobs_in, modes_in, workers_in, nodes_in, prints_log}
 
 -- the number of a fault of a project text
 abbrev pub code_of : Fault → ℕ
@@ -82,47 +83,35 @@ text_of (answers.Read outcome) = text_of_outcome outcome
 text_of (answers.Made printed) = printed.items
 text_of (answers.BadWords bad) = codes "bad words: word " ++ line (decimal bad.place)
 
--- a report of the project without a log: its schedule is the first plan, and its verdict what the plan and the longest
--- chain show; and what it claims of all schedules is true
-pub record IsReportOn (P : Project) (report : Report) : Type 0 where
-  pub plan : IsFirstPlan P report.best
-  pub longest : ℕ
-  pub chain : IsLongestChain P longest
-  pub verdict : IsVerdictOf P longest report.best report.verdict
-  pub claim : Claim P report.verdict report.best
-  pub no_log : report.log ≡ None
+-- the report of a search as the words ask for it
+abbrev pub IsReportTo : List (List ℕ) → Project → Report → Type 0
+IsReportTo words P told = IsSolve words × IsSearched P (workers_in words) (nodes_in words) (prints_log words) told
 
--- the text is read as a project, and this is a report on it, or its canonical text; or this is the first refusal of the
--- text
-abbrev pub IsOutcomeOf : List ℕ → Outcome → Type 0
-IsOutcomeOf bytes (outcomes.Solved report) = (P : Project) × Reads bytes P × IsReportOn P report
-IsOutcomeOf bytes (outcomes.Shown printed) = (P : Project) × Reads bytes P × (printed.items ≡ canonical P)
-IsOutcomeOf bytes (outcomes.BadProject refusal) = IsFirstRefusal bytes refusal
+-- the words are `solve`, and ask for this
+pub record IsRequest (words : List (List ℕ)) (request : Request) : Type 0 where
+  pub solve : IsSolve words
+  pub workers : request.workers ≡ workers_in words
+  pub nodes : request.nodes ≡ nodes_in words
+  pub log : request.log ≡ prints_log words
+
+-- the text is read as a project, and this is what the words ask for: a report on it, or its canonical text; or this is the first
+-- refusal of the text
+abbrev pub IsOutcomeOf : List (List ℕ) → List ℕ → Outcome → Type 0
+IsOutcomeOf words bytes (outcomes.Solved report) = (P : Project) × Reads bytes P × IsReportTo words P report
+IsOutcomeOf words bytes (outcomes.Shown printed) = (P : Project) × Reads bytes P × IsShow words × (printed.items ≡ canonical P)
+IsOutcomeOf words bytes (outcomes.BadProject refusal) = IsOnProject words × IsFirstRefusal bytes refusal
 
 -- what the text under a name comes to; where the shelf doesn't tell its texts, what some text comes to
-abbrev pub IsOutcomeUnder : Option (List (List ℕ × List ℕ)) → List ℕ → Outcome → Type 0
-IsOutcomeUnder None name outcome = (bytes : List ℕ) × IsOutcomeOf bytes outcome
-IsOutcomeUnder (Some texts) name outcome = IsOutcomeOf (text_under texts name) outcome
-
--- what the words ask for: a report where they are `solve`, a text where they are `show`
-abbrev pub IsAskedFor : List (List ℕ) → Outcome → Type 0
-IsAskedFor words (outcomes.Solved report) = IsSolve words
-IsAskedFor words (outcomes.Shown printed) = IsShow words
-IsAskedFor words (outcomes.BadProject refusal) = IsOnProject words
+abbrev pub IsOutcomeUnder : List (List ℕ) → Option (List (List ℕ × List ℕ)) → List ℕ → Outcome → Type 0
+IsOutcomeUnder words None name outcome = (bytes : List ℕ) × IsOutcomeOf words bytes outcome
+IsOutcomeUnder words (Some texts) name outcome = IsOutcomeOf words (text_under texts name) outcome
 
 -- the answer to the words: the place of the word that can't stand; or what the text under the project's name comes to; or
 -- the canonical text of a made project
 abbrev pub IsAnswerTo : List (List ℕ) → Option (List (List ℕ × List ℕ)) → Answer → Type 0
 IsAnswerTo words texts (answers.BadWords bad) = bad_word words ≡ Some bad.place
-IsAnswerTo words texts (answers.Read outcome) = IsAskedFor words outcome × IsOutcomeUnder texts (project_name words) outcome
+IsAnswerTo words texts (answers.Read outcome) = IsOutcomeUnder words texts (project_name words) outcome
 IsAnswerTo words texts (answers.Made printed) = IsMake words × (printed.items ≡ canonical (made (seed_in words) (jobs_in words) (modes_in words)))
-
--- the statuses at which an answer was told whole
-abbrev pub IsTold : Status → Type 0
-IsTold statuses.ReadFault = ⊥
-IsTold statuses.WriteFault = ⊥
-IsTold statuses.NoMemory = ⊥
-IsTold _ = Unit {0}
 
 -- ---- what the words ask for
 
@@ -137,3 +126,32 @@ NamesNoProject words texts = IsOnProject words × (IsProjectText (text_under tex
 -- the words name a project, or one is made
 abbrev pub HasProject : List (List ℕ) → List (List ℕ × List ℕ) → Type 0
 HasProject words texts = NamesProject words texts ⊎ IsMake words
+
+-- ---- what `solve` tells
+
+-- the text under the project's name is this project; where the shelf doesn't tell its texts, some text is
+abbrev pub IsNamed : List (List ℕ) → Option (List (List ℕ × List ℕ)) → Project → Type 0
+IsNamed words None P = (bytes : List ℕ) × Reads bytes P
+IsNamed words (Some texts) P = Reads (text_under texts (project_name words)) P
+
+-- a report on the project under the name was told, with its log or without, and with the status of its verdict; and this is
+-- so of the project and of the report with its log
+pub record Tells (words : List (List ℕ)) (texts : Option (List (List ℕ × List ℕ))) (status : Status) (before now : Option (List ℕ)) (Q : Project → Report → Type 0) : Type 0 where
+  pub project : Project
+  pub named : IsNamed words texts project
+  pub report : Report
+  pub status_is : status ≡ status_of_verdict report.verdict
+  pub gains : Gains before now (text (with_log (prints_log words) report))
+  pub is_so : Q project report
+
+-- where `solve` ended with a verdict
+abbrev pub WhereSolved : List (List ℕ) → Option (List (List ℕ × List ℕ)) → Status → Option (List ℕ) → Option (List ℕ) → (Project → Report → Type 0) → Type 0
+WhereSolved words texts status before now Q = IsSolve words → IsSolved status → Tells words texts status before now Q
+
+-- the bytes that were told are accepted as a report on the project under the name
+pub record TellsAccepted (words : List (List ℕ)) (texts : Option (List (List ℕ × List ℕ))) (before now : Option (List ℕ)) : Type 0 where
+  pub project : Project
+  pub named : IsNamed words texts project
+  pub bytes : List ℕ
+  pub gains : Gains before now bytes
+  pub accepted : Accepts project bytes

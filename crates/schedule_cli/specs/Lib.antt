@@ -1,4 +1,5 @@
 pub mod Words
+pub mod Options
 pub mod Status
 pub mod Solve
 pub mod Answer

@@ -1,32 +1,104 @@
--- What the first plan and the longest chain say of a project.
-use Rattle.std.specs.Prelude.{◌≡◌, ℕ, List, length, Option, Some, None}
+-- What `solve` reports of a project, whoever searched and in whatever order the workers came.
+use Rattle.std.specs.Prelude.{◌≡◌, ℕ, ◌<◌, ◌≤◌, Bool, true, false, Option, Some, None, IfSome, List, [], ◌∷◌, length, All, Contains}
+use Rattle.rcpsp_model.specs.declared.parts.Entry.{Entry}
 use Rattle.rcpsp_model.specs.declared.parts.Placing.{Placing}
 use Rattle.rcpsp_model.specs.declared.parts.Verdict.{Verdict}
-use Rattle.rcpsp_model.specs.declared.parts.Verdict.TheVariants.{Optimal, Infeasible, Limit}
-use Rattle.rcpsp_model.specs.Project.{Project, modes_of, nonrenewables, IsJob}
+use Rattle.rcpsp_model.specs.Project.{Project}
 use Rattle.rcpsp_model.specs.Schedule.{end_of, entries}
-use Rattle.rcpsp_model.specs.Chain.{IsTail, IsGreatest}
+use Rattle.rcpsp_model.specs.Tree.{IsFront}
+use Rattle.rcpsp_model.specs.Dominance.{Dominates}
+use Rattle.rcpsp_model.specs.Plan.{IsFirstPlan}
+use Rattle.rcpsp_model.specs.Claim.{Claim}
+use Rattle.proof_log.specs.declared.report.LogLine.{LogLine}
+use Rattle.proof_log.specs.declared.report.Report.{Report}
+use Rattle.proof_log.specs.Report.{duration_of}
+use Rattle.proof_log.specs.Text.{text}
+use Rattle.log_truth.specs.Log.{is_expanded, LogNode, front_of, nodes}
+use Rattle.log_truth.specs.Holds.{IsLimit, IsLeftNumber, expanded_in, numbered, Holds, Accepts}
+use Rattle.search_log.specs.declared.row.Origin.{Origin}
+use Rattle.search_log.specs.Lean.{IsLeanLog}
+use Rattle.search_rounds.specs.Found.{end_of_plan}
 
--- t is the tail of some job
-abbrev pub IsSomeTail : Project → ℕ → Type 0
-IsSomeTail P t = (j : ℕ) × IsJob P j × IsTail P j t
+-- exactly so many lines are expanded, and one was left, with a bound below the duration, if there is one
+pub record EndsAtLimit (nodes : ℕ) (verdict : Verdict) (lines : List LogLine) : Type 0 where
+  pub expanded : expanded_in lines ≡ nodes
+  pub bound : ℕ
+  pub left : IsLeftNumber lines bound
+  pub below : IfSome (duration_of verdict) (λ d. bound < d)
 
--- h is the length of the longest chain of jobs, in least durations
-abbrev pub IsLongestChain : Project → ℕ → Type 0
-IsLongestChain P h = IsGreatest (IsSomeTail P) h
+-- No expansion was wasted: each line has its round, its worker and its turn, and what was expanded was needed by what was known
+-- then, where the search began with the first plan
+pub record IsLeanFromFirst (P : Project) (workers : ℕ) (verdict : Verdict) (lines : List LogLine) : Type 0 where
+  pub plan : Option (List Placing)
+  pub first : IsFirstPlan P plan
+  pub starts : List ℕ
+  pub origins : List Origin
+  pub lean : IsLeanLog P workers (end_of_plan P plan) starts (duration_of verdict) lines origins
 
--- each job has one mode, and there is no nonrenewable resource: the RCPSP
-abbrev pub IsSingleMode : Project → Type 0
-IsSingleMode P = (nonrenewables P ≡ 0) × ((j : ℕ) → IsJob P j → length (modes_of P j) ≡ 1)
+-- the report, with its log, of a search by so many workers that may expand so many nodes
+pub record IsSolution (P : Project) (workers nodes : ℕ) (report : Report) : Type 0 where
+  pub holds : Holds P report
+  pub claim : Claim P report.verdict report.best
+  pub accepted : Accepts P (text report)
+  pub lines : List LogLine
+  pub log : report.log ≡ Some lines
+  pub limit : IsLimit report.verdict → EndsAtLimit nodes report.verdict lines
+  pub lean : IsLeanFromFirst P workers report.verdict lines
 
--- the verdict of the first plan s, where the longest chain has the length h: optimal where the plan ends with it; and
--- where there is no plan, infeasible in the RCPSP, in which there is one where any schedule is feasible
-abbrev pub IsVerdictOf : Project → ℕ → Option (List Placing) → Verdict → Type 0
-IsVerdictOf P h (Some s) (Optimal d) = (d ≡ h) × (end_of P (entries s) ≡ h)
-IsVerdictOf P h (Some s) (Limit (Some d) b) = (b ≡ h) × (end_of P (entries s) ≡ d) × (d ≡ h → ⊥)
-IsVerdictOf P h None Infeasible = IsSingleMode P
-IsVerdictOf P h None (Limit None b) = (b ≡ h) × (IsSingleMode P → ⊥)
-IsVerdictOf P h (Some s) Infeasible = ⊥
-IsVerdictOf P h (Some s) (Limit None b) = ⊥
-IsVerdictOf P h None (Optimal d) = ⊥
-IsVerdictOf P h None (Limit (Some d) b) = ⊥
+-- ---- what follows from a lean log
+
+-- there is a duration, and it is at most this
+abbrev pub IsDoneBy : Option ℕ → ℕ → Type 0
+IsDoneBy None end = ⊥
+IsDoneBy (Some d) end = d ≤ end
+
+-- where there is a first plan, the schedule ends no later
+abbrev pub IsNoLaterThanFirst : Project → Verdict → Type 0
+IsNoLaterThanFirst P verdict = (plan : List Placing) → IsFirstPlan P (Some plan) → IsDoneBy (duration_of verdict) (end_of P (entries plan))
+
+-- two lines are expanded, and the front of each dominates that of the other
+pub record DominateEachOther (P : Project) (lines : List LogLine) (i k : ℕ) : Type 0 where
+  pub one : LogNode
+  pub other : LogNode
+  pub one_is : numbered (nodes P lines) i ≡ Some one
+  pub other_is : numbered (nodes P lines) k ≡ Some other
+  pub expanded : is_expanded one.line ≡ true
+  pub other_expanded : is_expanded other.line ≡ true
+  pub front : List Entry
+  pub other_front : List Entry
+  pub front_is : front_of one ≡ Some front
+  pub other_front_is : front_of other ≡ Some other_front
+  pub dominates : Dominates P front other_front
+  pub dominated : Dominates P other_front front
+
+-- no two expanded lines do so
+abbrev pub ExpandsNoTwins : Project → Report → Type 0
+ExpandsNoTwins P report = (lines : List LogLine) → report.log ≡ Some lines → (i k : ℕ) → DominateEachOther P lines i k → i ≡ k
+
+-- ---- the number of fronts
+
+-- no front stands in the list twice
+abbrev pub AreDifferent : List (List Entry) → Type 0
+AreDifferent [] = Unit {0}
+AreDifferent (F ∷ Fs) = (Contains Fs F → ⊥) × AreDifferent Fs
+
+-- the project has at most n fronts
+abbrev pub HasAtMostFronts : Project → ℕ → Type 0
+HasAtMostFronts P n = (Fs : List (List Entry)) → All (IsFront P) Fs → AreDifferent Fs → length Fs ≤ n
+
+-- ---- what is told
+
+-- the report, with its log or without
+abbrev pub with_log : Bool → Report → Report
+with_log true report = report
+with_log false report = record report { log = None }
+
+-- The report of such a search, as it is told: with its log or without. It ends no later than the first plan; one worker expands
+-- no two nodes of which each dominates the other; and where as many expansions are allowed as there are fronts, they suffice
+pub record IsSearched (P : Project) (workers nodes : ℕ) (log : Bool) (told : Report) : Type 0 where
+  pub whole : Report
+  pub is_told : told ≡ with_log log whole
+  pub solution : IsSolution P workers nodes whole
+  pub no_later : IsNoLaterThanFirst P whole.verdict
+  pub no_twins : workers ≡ 1 → ExpandsNoTwins P whole
+  pub ends : HasAtMostFronts P nodes → IsLimit whole.verdict → ⊥

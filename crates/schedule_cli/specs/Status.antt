@@ -23,6 +23,13 @@ IsSolved Infeasible = Unit {0}
 IsSolved Limit = Unit {0}
 IsSolved _ = ⊥
 
+-- the statuses at which an answer was told whole
+abbrev pub IsTold : Status → Type 0
+IsTold ReadFault = ⊥
+IsTold WriteFault = ⊥
+IsTold NoMemory = ⊥
+IsTold _ = Unit {0}
+
 -- no fault was counted, by the counts before and after
 abbrev pub IsFaultless : ℕ → ℕ → Type 0
 IsFaultless before now = Rose before now → ⊥

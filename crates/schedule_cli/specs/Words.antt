@@ -1,5 +1,5 @@
 -- The words of a command, and the place of the first that can't stand.
-use Rattle.std.specs.Prelude.{◌≡◌, ℕ, ◌+◌, ◌≤◌, ◌⊎◌, Bool, IsTrue, not, ◌&&◌, ◌==◌, nat_le, List, [], ◌∷◌, length, take, drop, codes, Option, None, Some, if◌then◌else◌}
+use Rattle.std.specs.Prelude.{◌≡◌, ℕ, ◌+◌, ◌≤◌, ◌⊎◌, Bool, true, false, IsTrue, not, ◌&&◌, ◌||◌, ◌==◌, nat_le, List, [], ◌∷◌, length, take, drop, codes, Option, None, Some, if◌then◌else◌}
 use Rattle.std.specs.List.{slice_index_or}
 use Rattle.std.specs.Str.{bytes_eq}
 use Rattle.psplib_lex.specs.Number.{is_number, digits_value}
@@ -22,12 +22,63 @@ is_seed word = is_within 0 999999999 word
 abbrev pub is_jobs : List ℕ → Bool
 is_jobs word = is_within 3 128 word
 
--- `modes=` and, in the bytes behind it, a number of modes
-unfoldable pub is_modes : List ℕ → Bool
-is_modes word = bytes_eq (take 6 word) (codes "modes=") && is_within 1 4 (drop 6 word)
+abbrev pub is_yes : List ℕ → Bool
+is_yes word = bytes_eq word (codes "yes")
 
-abbrev pub is_log_no : List ℕ → Bool
-is_log_no word = bytes_eq word (codes "log=no")
+abbrev pub is_yes_or_no : List ℕ → Bool
+is_yes_or_no word = is_yes word || bytes_eq word (codes "no")
+
+-- ---- options
+
+-- an option: what its word begins with, and what may stand behind that
+pub record Form : Type 0 where
+  pub key : List ℕ
+  pub may : List ℕ → Bool
+
+-- a number from the least to the most behind the key
+abbrev pub number_form : List ℕ → ℕ → ℕ → Form
+number_form key least most = record { key = key; may = is_within least most }
+
+abbrev pub modes_form : Form
+modes_form = number_form (codes "modes=") 1 4
+
+abbrev pub workers_form : Form
+workers_form = number_form (codes "workers=") 1 32
+
+abbrev pub nodes_form : Form
+nodes_form = number_form (codes "nodes=") 0 100000
+
+abbrev pub log_form : Form
+log_form = record { key = codes "log="; may = is_yes_or_no }
+
+unfoldable pub begins_with : List ℕ → List ℕ → Bool
+begins_with key word = bytes_eq (take (length key) word) key
+
+-- the word gives the option
+abbrev pub gives : Form → List ℕ → Bool
+gives form word = begins_with form.key word && form.may (drop (length form.key) word)
+
+-- the word gives one of the options
+abbrev pub gives_some : List Form → List ℕ → Bool
+gives_some [] word = false
+gives_some (form ∷ forms) word = gives form word || gives_some forms word
+
+-- the options that the word doesn't give: they may still come
+abbrev pub others : List Form → List ℕ → List Form
+others [] word = []
+others (form ∷ forms) word = if gives form word then others forms word else form ∷ others forms word
+
+-- ---- the first word that can't stand
+
+-- the place of the first word, counted from this number, that can't stand: first come words that have to stand, each with its
+-- test, and then words of which each gives another one of the options; a word that is missing can't stand either
+abbrev pub first_bad : List (List ℕ → Bool) → List Form → List (List ℕ) → ℕ → Option ℕ
+first_bad (test ∷ tests) forms [] place = Some place
+first_bad (test ∷ tests) forms (word ∷ words) place = if test word then first_bad tests forms words (place + 1) else Some place
+first_bad [] forms [] place = None
+first_bad [] forms (word ∷ words) place = if gives_some forms word then first_bad [] (others forms word) words (place + 1) else Some place
+
+-- ---- the commands
 
 abbrev pub is_solve : List ℕ → Bool
 is_solve word = bytes_eq word (codes "solve")
@@ -38,26 +89,16 @@ is_show word = bytes_eq word (codes "show")
 abbrev pub is_make : List ℕ → Bool
 is_make word = bytes_eq word (codes "make")
 
--- ---- the first word that can't stand
-
--- the place of the first word, counted from this number, that fails the test at its place: first come tests of words that
--- have to stand, then of options, which may be left out at the end; a word that is missing or left over fails
-abbrev pub first_bad : List (List ℕ → Bool) → List (List ℕ → Bool) → List (List ℕ) → ℕ → Option ℕ
-first_bad (test ∷ tests) options [] place = Some place
-first_bad (test ∷ tests) options (word ∷ words) place = if test word then first_bad tests options words (place + 1) else Some place
-first_bad [] options [] place = None
-first_bad [] [] (word ∷ words) place = Some place
-first_bad [] (test ∷ options) (word ∷ words) place = if test word then first_bad [] options words (place + 1) else Some place
-
--- the place, from 1, of the first word that can't stand in `solve PROJECT log=no`, `show PROJECT` or
--- `make SEED JOBS modes=M`, where the last may be left out; one past the last word where one is missing; none where the
--- words are a command
+-- the place, from 1, of the first word that can't stand; none where the words are a command:
+--   solve PROJECT     then any of workers=W, nodes=L, log=yes or log=no
+--   show PROJECT
+--   make SEED JOBS    then modes=M or nothing
 abbrev pub bad_word : List (List ℕ) → Option ℕ
 bad_word [] = Some 1
 bad_word (command ∷ words) =
-    if is_solve command then first_bad (is_name ∷ is_log_no ∷ []) [] words 2 else
+    if is_solve command then first_bad (is_name ∷ []) (workers_form ∷ nodes_form ∷ log_form ∷ []) words 2 else
     (if is_show command then first_bad (is_name ∷ []) [] words 2 else
-    (if is_make command then first_bad (is_seed ∷ is_jobs ∷ []) (is_modes ∷ []) words 2 else Some 1))
+    (if is_make command then first_bad (is_seed ∷ is_jobs ∷ []) (modes_form ∷ []) words 2 else Some 1))
 
 -- ---- what the words ask for
 
@@ -86,26 +127,47 @@ IsPrint words = IsShow words ⊎ IsMake words
 abbrev pub project_name : List (List ℕ) → List ℕ
 project_name words = word_at words 1
 
--- the seed, the number of jobs, and the number of modes: one where its word is left out, and so is empty here
 abbrev pub seed_in : List (List ℕ) → ℕ
 seed_in words = digits_value (word_at words 1)
 
 abbrev pub jobs_in : List (List ℕ) → ℕ
 jobs_in words = digits_value (word_at words 2)
 
-abbrev pub modes_of : List ℕ → ℕ
-modes_of word = if length word == 0 then 1 else digits_value (drop 6 word)
+-- what stands behind the key in the first word that begins with it, as a number; the default where there is no such word
+abbrev pub number_behind : List ℕ → ℕ → List (List ℕ) → ℕ
+number_behind key default [] = default
+number_behind key default (word ∷ words) = if begins_with key word then digits_value (drop (length key) word) else number_behind key default words
 
+-- one mode, unless the words say otherwise
 abbrev pub modes_in : List (List ℕ) → ℕ
-modes_in words = modes_of (word_at words 3)
+modes_in words = number_behind (codes "modes=") 1 (drop 3 words)
+
+-- one worker
+abbrev pub workers_in : List (List ℕ) → ℕ
+workers_in words = number_behind (codes "workers=") 1 (drop 2 words)
+
+-- 50,000 expansions
+abbrev pub nodes_in : List (List ℕ) → ℕ
+nodes_in words = number_behind (codes "nodes=") 50000 (drop 2 words)
+
+-- whether `yes` stands there; the default where there is no such word
+abbrev pub yes_behind : List ℕ → Bool → List (List ℕ) → Bool
+yes_behind key default [] = default
+yes_behind key default (word ∷ words) = if begins_with key word then is_yes (drop (length key) word) else yes_behind key default words
+
+-- the log is printed, unless the words say otherwise
+abbrev pub prints_log : List (List ℕ) → Bool
+prints_log words = yes_behind (codes "log=") true (drop 2 words)
 
 -- the words are this command
 abbrev pub IsCommand : List (List ℕ) → Command → Type 0
-IsCommand words (commands.Solve project) = IsSolve words × (project.now ≡ project_name words)
+IsCommand words (commands.Solve project workers nodes log) =
+    IsSolve words × (project.now ≡ project_name words) × (workers ≡ workers_in words) × (nodes ≡ nodes_in words) × (log ≡ prints_log words)
 IsCommand words (commands.Show project) = IsShow words × (project.now ≡ project_name words)
 IsCommand words (commands.Make seed jobs modes) = IsMake words × (seed ≡ seed_in words) × (jobs ≡ jobs_in words) × (modes ≡ modes_in words)
 
--- the numbers of jobs and modes are such that there is a made project of them
-abbrev pub IsMakeable : Command → Type 0
-IsMakeable (commands.Make seed jobs modes) = (3 ≤ jobs) × (jobs ≤ 128) × (1 ≤ modes) × (modes ≤ 4)
-IsMakeable _ = Unit {0}
+-- the numbers are such that a project can be made, or searched by so many workers up to so many expansions
+abbrev pub IsWithinReach : Command → Type 0
+IsWithinReach (commands.Solve project workers nodes log) = (1 ≤ workers) × (workers ≤ 32) × (nodes ≤ 100000)
+IsWithinReach (commands.Make seed jobs modes) = (3 ≤ jobs) × (jobs ≤ 128) × (1 ≤ modes) × (modes ≤ 4)
+IsWithinReach (commands.Show project) = Unit {0}

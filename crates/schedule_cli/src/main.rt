@@ -3,39 +3,56 @@
 #![tactic(auto)]
 
 mod answer;
-mod chain;
 mod file_shelf;
+#[cfg(test)]
+mod meeting_tests;
 mod number;
+mod options;
 #[cfg(test)]
 mod print_tests;
+mod progress;
 mod reading;
 #[cfg(test)]
 mod refusal_tests;
 mod run;
+#[cfg(test)]
+mod solve_tests;
+mod solving;
 mod status;
 mod std_sink;
 mod stop;
 mod tell;
 #[cfg(test)]
 mod tests;
-mod verdict;
 mod words;
 
 use crate::file_shelf::FileShelf;
+use crate::progress::Progress;
 use crate::run::run;
 use crate::status::Status;
 use crate::std_sink::StdSink;
-use sched_base::OpenGate;
+use crate::words::{Command, parse_words};
 use std::alloc::{AllocError, Global};
 use std::env::{Env, FillError};
+use std::io::IsTerminal;
 use std::process::ExitCode;
 use std::rt::Files;
 use std::thread::Threads;
+use std::time::Clock;
 
 /// What the program says on standard error where its words are no command.
-const USAGE: &str = "usage: schedule_cli solve PROJECT log=no
+const USAGE: &str = "usage: schedule_cli solve PROJECT [workers=W] [nodes=L] [log=yes|log=no]
        schedule_cli show PROJECT
-       schedule_cli make SEED JOBS [modes=M]";
+       schedule_cli make SEED JOBS [modes=M]
+solve  searches for a shortest schedule of the project in a file, and writes a report
+show   writes the project in its canonical form
+make   writes a project that is made from a seed: SEED 0 to 999999999, JOBS 3 to 128
+W      how many workers search, 1 to 32; 1 if left out
+L      how many nodes they may expand, 0 to 100000; 50000 if left out
+log    whether the report has the log of the search; yes if left out
+M      how many modes a made job has, 1 to 4; 1 if left out
+status 0 optimal, or written; 1 infeasible; 2 the node limit; 4 bad words; 5 bad project;
+       6 a read failed; 7 a write failed; 8 no memory";
 
 /// The most bytes of a word that are asked for at first.
 const USUAL_WORD: usize = 4_096;
@@ -75,19 +92,35 @@ fn words_after_name<R: Env + AllocGlobal>(rt: &R) -> Result<Vec<String>, AllocEr
     Ok(words)
 }
 
-/// Runs the program over files and the standard output.
-fn run_on_system<R: Files + Print + Threads + Sync + AllocGlobal>(
+/// How many nodes the words allow a search to expand; none where they are no search.
+fn nodes_of(words: &[String]) -> Option<u32> {
+    match parse_words(words) {
+        Ok(Command::Solve { nodes, .. }) => Some(nodes),
+        _ => None,
+    }
+}
+
+/// Runs the program over files and the standard output. A person who watches is told how far a search is.
+fn run_on_system<R: Files + Print + Eprint + Clock + Threads + Sync + AllocGlobal>(
     rt: &R,
     words: &[String],
+    is_watched: bool,
 ) -> Status {
+    let Ok(mut out) = StdSink::new(rt.alloc(), rt) else {
+        return Status::NoMemory;
+    };
     let mut shelf = FileShelf::new(rt);
-    let mut out = StdSink::new(rt);
-    run(rt, rt.alloc(), words, &mut shelf, &mut out, &OpenGate)
+    let nodes = if is_watched { nodes_of(words) } else { None };
+    let gate = Progress::new(rt, nodes);
+    let status = run(rt, rt.alloc(), words, &mut shelf, &mut out, &gate);
+    gate.clear();
+    status.after(out.hand_on())
 }
 
 fn main(rt: HostRuntime) -> ExitCode {
+    let is_watched = rt.stderr().is_terminal();
     let status = match words_after_name(&rt) {
-        Ok(words) => run_on_system(&rt, &words),
+        Ok(words) => run_on_system(&rt, &words, is_watched),
         Err(AllocError) => Status::NoMemory,
     };
     if status == Status::BadWords {

@@ -1,9 +1,9 @@
 //! Numbers among the words of a command.
 
-ghost use Rattle.std.specs.Prelude.{◌≡◌, ◌+◌, ◌-◌, ◌*◌, ◌≤◌, min, is_some, IfSome, length};
+ghost use Rattle.std.specs.Prelude.{◌≡◌, ◌+◌, ◌-◌, ◌*◌, ◌≤◌, min, is_some, IfSome, length, drop};
 ghost use Rattle.std.specs.List.{list_all};
 ghost use Rattle.psplib_lex.specs.Number.{is_digit, is_number, digits_value};
-ghost use Rattle.schedule_cli.specs.Words.{is_within, is_modes, modes_of};
+ghost use Rattle.schedule_cli.specs.Words.{is_within, number_form, gives};
 
 /// A number of a word has so many digits at most.
 const MOST_DIGITS: usize = 9;
@@ -71,14 +71,14 @@ pub fn number_within(word: &[u8], least: u32, most: u32) -> Option<u32>
     }
 }
 
-/// The number of modes in a word `modes=M`.
-#[tactic(auto, unfolding(crate::specs::Words::is_modes))]
-pub fn modes_number(word: &[u8]) -> Option<u8>
-    ensures stands { is_some result ≡ is_modes word.now }
-    ensures value { IfSome result (λ n. n ≡ modes_of word.now) }
-    ensures range { IfSome result (λ n. (1 ≤ n) × (n ≤ 4)) }
+/// The number from `least` to `most` that stands behind the key in a word.
+#[tactic(auto, unfolding(crate::specs::Words::begins_with))]
+pub fn number_behind(word: &[u8], key: &[u8], least: u32, most: u32) -> Option<u32>
+    requires { most ≤ 999999999 }
+    ensures stands { is_some result ≡ gives (number_form key.now least most) word.now }
+    ensures value { IfSome result (λ n. n ≡ digits_value (drop (length key.now) word.now)) }
+    ensures range { IfSome result (λ n. (least ≤ n) × (n ≤ most)) }
 {
-    let digits = word.strip_prefix(b"modes=")?;
-    let modes = number_within(digits, 1, 4)?;
-    Some(modes as u8)
+    let digits = word.strip_prefix(key)?;
+    number_within(digits, least, most)
 }

@@ -3,10 +3,12 @@
 use crate::run::run;
 use crate::status::Status;
 use crate::tests::{append_jobs, check, shelf_of, words_of};
+use project_net::print_project;
 use sched_base::{MemSink, OpenGate};
 use std::alloc::{AllocError, Global};
 use std::process::Abort;
 use std::thread::Threads;
+use worked_projects::{SHORT_OR_CHEAP, build};
 
 /// A line of 72 asterisks.
 const STARS: &str = "************************************************************************\n";
@@ -65,17 +67,8 @@ fn canonical_of(alloc: Global, lines: &Lines<'_>) -> Result<String, AllocError> 
     Ok(text)
 }
 
-/// Two of four jobs have a short and a cheap mode.
-const B: Lines<'static> = Lines {
-    counts: (4, 1, 1),
-    horizon: 8,
-    precedence: "1 1 2 2 3\n2 2 1 4\n3 2 1 4\n4 1 0\n",
-    heading: "jobnr. mode duration R 1 N 1\n",
-    modes: "1 1 0 0 0\n2 1 2 1 3\n2 4 1 1\n3 1 2 1 3\n2 4 1 1\n4 1 0 0 0\n",
-    amounts: "R 1 N 1\n2 4\n",
-};
-
-/// The same as another program writes it: with a row of precedence on two lines, and in columns.
+/// A project whose jobs have a short mode and a cheap one, as another program writes it: with a row of precedence on two lines,
+/// and in columns.
 const B_IN_COLUMNS: &str = "************************************************************************
 file with basedata            : mm4_.bas
 initial value random generator: 12345
@@ -143,8 +136,10 @@ fn check_printed<R: Threads + Abort + Sync + AllocGlobal>(
 #[test]
 fn a_text_in_columns_is_shown_canonically(rt: HostRuntime) {
     let text = with_carriage_returns(rt.alloc(), B_IN_COLUMNS).expect(&rt, "memory");
-    let want = canonical_of(rt.alloc(), &B).expect(&rt, "memory");
-    check_printed(&rt, "show p", text.as_str(), (Status::Done, want.as_str()));
+    let project = build(rt.alloc(), &SHORT_OR_CHEAP).expect(&rt, "a project");
+    let canonical = print_project(rt.alloc(), &project).expect(&rt, "memory");
+    let want = str::from_utf8(&canonical).expect(&rt, "a text");
+    check_printed(&rt, "show p", text.as_str(), (Status::Done, want));
 }
 
 #[test]

@@ -1,55 +1,47 @@
-ghost use Rattle.std.specs.Prelude.{◌≡◌, ◌≤◌, ◌⊎◌, ◌↔◌, ℕ, List, Err, None, IsSome, IfOk, IfSome, [], map, string_bytes};
+ghost use Rattle.std.specs.Prelude.{◌≡◌, ◌≤◌, ◌⊎◌, ◌↔◌, ℕ, List, Err, None, IsSome, IfOk, IfSome, true, [], map, string_bytes};
 ghost use Rattle.sched_base.specs.Outside.{Gains, GainsFront, Rose};
 ghost use Rattle.schedule_cli.specs.declared.answer.Answer.{Answer as Told};
 ghost use Rattle.schedule_cli.specs.declared.answer.Answer.TheVariants as answers;
 ghost use Rattle.schedule_cli.specs.declared.stop.Stop.TheVariants as stops;
 ghost use Rattle.project_net.specs.Canonical.{canonical};
 ghost use Rattle.project_gen.specs.Made.{made};
-ghost use Rattle.schedule_cli.specs.Words.{bad_word, IsSolve, IsShow, IsMake, IsOnProject, IsPrint};
-ghost use Rattle.schedule_cli.specs.Status.{IsSolved, IsFaultless};
-ghost use Rattle.schedule_cli.specs.Answer.{IsOutcomeOf, IsAskedFor, IsReportOn, IsAnswerTo, IsTellable, IsTold, HasProject, NamesNoProject, status_of, text_of};
-ghost use Rattle.proof_log.specs.Report.{IsReport};
+ghost use Rattle.schedule_cli.specs.Words.{bad_word, IsSolve, IsShow, IsMake, IsOnProject, IsPrint, workers_in, nodes_in, prints_log};
+ghost use Rattle.schedule_cli.specs.Solve.{IsSolution, IsNoLaterThanFirst, ExpandsNoTwins, HasAtMostFronts};
+ghost use Rattle.schedule_cli.specs.Status.{IsSolved, IsTold, IsFaultless};
+ghost use Rattle.schedule_cli.specs.Answer.{IsRequest, IsOutcomeOf, IsAnswerTo, IsTellable, HasProject, NamesNoProject, WhereSolved, TellsAccepted, status_of, text_of};
 
 use crate::answer::{Answer, Outcome};
 use crate::reading::read_text;
+use crate::solving::{Request, report_on};
 use crate::status::Status;
 use crate::stop::Stop;
 use crate::tell::{Untold, tell};
-use crate::verdict::verdict_of;
 use crate::words::{Command, parse_words};
 use project_gen::make;
-use project_net::{Project, print_project};
-use proof_log::Report;
+use project_net::print_project;
 use psplib_layout::ReadError;
 use psplib_reader::read_project;
-use sched_base::{Gate, NoMemory, Shelf, Sink};
-use serial_scheme::first_plan;
+use sched_base::{Gate, Shelf, Sink};
 use std::alloc::Global;
 use std::thread::Threads;
 
-/// The report on a project: its first plan, and what the plan and the longest chain show.
-fn report_on(alloc: Global, project: &Project) -> Result<Report, NoMemory>
-    ensures report { IfOk result (λ report. IsReportOn project.now report) }
-    ensures text { IfOk result IsReport }
-{
-    let best = first_plan(alloc, project)?;
-    let verdict = verdict_of(project, &best);
-    Ok(Report {
-        verdict,
-        best,
-        log: None,
-    })
-}
-
 /// What a project text comes to where it is to be solved.
-fn solution_of(alloc: Global, text: &[u8]) -> Result<Outcome, Stop>
-    ensures outcome { IfOk result (λ outcome. IsOutcomeOf text.now outcome) }
-    ensures asked { IfOk result (λ outcome. (words : List (List ℕ)) → IsSolve words → IsAskedFor words outcome) }
+fn solution_of<R: Threads + Sync, G: Gate + Sync>(
+    rt: &R,
+    alloc: Global,
+    gate: &G,
+    text: &[u8],
+    request: Request,
+) -> Result<Outcome, Stop>
+    requires some { 1 ≤ request.workers }
+    requires few { request.workers ≤ 32 }
+    requires nodes { request.nodes ≤ 100000 }
+    ensures outcome { IfOk result (λ outcome. (words : List (List ℕ)) → IsRequest words request → IsOutcomeOf words text.now outcome) }
     ensures text { IfOk result (λ outcome. IsTellable (answers.Read outcome)) }
     ensures memory { result ≡ Err stops.ReadFault → ⊥ }
 {
     match read_project(alloc, text) {
-        Ok(project) => Ok(Outcome::Solved(report_on(alloc, &project)?)),
+        Ok(project) => Ok(Outcome::Solved(report_on(rt, alloc, gate, &project, request)?)),
         Err(ReadError::Refused(refusal)) => Ok(Outcome::BadProject(refusal)),
         Err(ReadError::NoMemory) => Err(Stop::NoMemory),
     }
@@ -57,8 +49,7 @@ fn solution_of(alloc: Global, text: &[u8]) -> Result<Outcome, Stop>
 
 /// What a project text comes to where it is to be shown.
 fn show_of(alloc: Global, text: &[u8]) -> Result<Outcome, Stop>
-    ensures outcome { IfOk result (λ outcome. IsOutcomeOf text.now outcome) }
-    ensures asked { IfOk result (λ outcome. (words : List (List ℕ)) → IsShow words → IsAskedFor words outcome) }
+    ensures outcome { IfOk result (λ outcome. (words : List (List ℕ)) → IsShow words → IsOutcomeOf words text.now outcome) }
     ensures text { IfOk result (λ outcome. IsTellable (answers.Read outcome)) }
     ensures memory { result ≡ Err stops.ReadFault → ⊥ }
 {
@@ -83,7 +74,13 @@ fn made_text(alloc: Global, seed: u32, jobs: u8, modes: u8) -> Result<Vec<u8>, S
 }
 
 /// The answer to the words.
-fn answer_to<S: Shelf>(alloc: Global, words: &[String], shelf: &mut S) -> Result<Answer, Stop>
+fn answer_to<R: Threads + Sync, S: Shelf, G: Gate + Sync>(
+    rt: &R,
+    alloc: Global,
+    words: &[String],
+    shelf: &mut S,
+    gate: &G,
+) -> Result<Answer, Stop>
     ensures answer { IfOk result (λ answer. IsAnswerTo (map string_bytes words.now) (S.texts shelf.old) answer) }
     ensures text { IfOk result IsTellable }
     ensures fault { result ≡ Err stops.ReadFault → IsOnProject (map string_bytes words.now) × Rose (S.faults shelf.old) (S.faults shelf.new) }
@@ -92,9 +89,21 @@ fn answer_to<S: Shelf>(alloc: Global, words: &[String], shelf: &mut S) -> Result
     ensures unread { IsMake (map string_bytes words.now) → shelf.new ≡ shelf.old }
 {
     match parse_words(words) {
-        Ok(Command::Solve { project }) => {
+        Ok(
+            Command::Solve {
+                project,
+                workers,
+                nodes,
+                log,
+            },
+        ) => {
             let text = read_text(alloc, shelf, project)?;
-            Ok(Answer::Read(solution_of(alloc, &text)?))
+            let request = Request {
+                workers,
+                nodes,
+                log,
+            };
+            Ok(Answer::Read(solution_of(rt, alloc, gate, &text, request)?))
         }
         Ok(Command::Show { project }) => {
             let text = read_text(alloc, shelf, project)?;
@@ -109,18 +118,42 @@ fn answer_to<S: Shelf>(alloc: Global, words: &[String], shelf: &mut S) -> Result
 
 /// Runs the program on these words: reads the project from the shelf, and writes what there is to tell to the sink.
 ///
-/// The words are `solve PROJECT log=no`, `show PROJECT`, or `make SEED JOBS` with `modes=M` or nothing behind it. All memory is taken before the first byte is written.
+/// The words are `solve PROJECT` and then any of `workers=W`, `nodes=L`, `log=yes` or `log=no`; `show PROJECT`; or
+/// `make SEED JOBS` and then `modes=M` or nothing. All memory is taken before the first byte is written. Each worker of a search
+/// passes the gate at the start of its part in a round, and after each node that it expanded.
 pub fn run<R: Threads + Sync, S: Shelf, K: Sink, G: Gate + Sync>(
-    _rt: &R,
+    rt: &R,
     alloc: Global,
     words: &[String],
     shelf: &mut S,
     out: &mut K,
-    _gate: &G,
+    gate: &G,
 ) -> Status
     // What is told is the answer to the words, whole, with its status.
     ensures told { IsTold result → (answer : Told) × IsAnswerTo (map string_bytes words.now) (S.texts shelf.old) answer
         × (result ≡ status_of answer) × Gains (K.held out.old) (K.held out.new) (text_of answer) }
+
+    // `solve` tells a report on the project under the name, with its log or without. It holds, and what it claims of all
+    // schedules is true; its text is accepted; at the limit as many nodes were expanded as the words allow, and one was left;
+    // and no expansion was wasted.
+    ensures report { WhereSolved (map string_bytes words.now) (S.texts shelf.old) result (K.held out.old) (K.held out.new)
+        (λ P report. IsSolution P (workers_in (map string_bytes words.now)) (nodes_in (map string_bytes words.now)) report) }
+
+    // With its log, what is written is accepted.
+    ensures accepted { IsSolve (map string_bytes words.now) → IsSolved result → prints_log (map string_bytes words.now) ≡ true
+        → TellsAccepted (map string_bytes words.now) (S.texts shelf.old) (K.held out.old) (K.held out.new) }
+
+    // The schedule ends no later than the first plan, where there is one.
+    ensures no_later { WhereSolved (map string_bytes words.now) (S.texts shelf.old) result (K.held out.old) (K.held out.new)
+        (λ P report. IsNoLaterThanFirst P report.verdict) }
+
+    // One worker expands no two nodes of which each dominates the other.
+    ensures no_twins { workers_in (map string_bytes words.now) ≡ 1 → WhereSolved (map string_bytes words.now) (S.texts shelf.old) result (K.held out.old) (K.held out.new)
+        ExpandsNoTwins }
+
+    // Where as many expansions are allowed as the project has fronts, the search ends before the limit.
+    ensures ends { WhereSolved (map string_bytes words.now) (S.texts shelf.old) result (K.held out.old) (K.held out.new)
+        (λ P report. HasAtMostFronts P (nodes_in (map string_bytes words.now)) → result ≡ Status.Limit → ⊥) }
 
     // A fault of the sink leaves a front of that text.
     ensures cut_off { result ≡ Status.WriteFault → (answer : Told) × IsAnswerTo (map string_bytes words.now) (S.texts shelf.old) answer
@@ -153,12 +186,15 @@ pub fn run<R: Threads + Sync, S: Shelf, K: Sink, G: Gate + Sync>(
         → IsFaultless (S.faults shelf.old) (S.faults shelf.new) → IsFaultless (K.faults out.old) (K.faults out.new) → (result ≡ Status.NoMemory → ⊥) → IsSolved result) }
     ensures makes { IsMake (map string_bytes words.now) → IsFaultless (K.faults out.old) (K.faults out.new) → (result ≡ Status.NoMemory → ⊥) → result ≡ Status.Done }
 {
-    match answer_to(alloc, words, shelf) {
-        Ok(answer) => match tell(alloc, out, &answer) {
-            Ok(()) => answer.status(),
-            Err(Untold::WriteFault) => Status::WriteFault,
-            Err(Untold::NoMemory) => Status::NoMemory,
-        },
+    match answer_to(rt, alloc, words, shelf, gate) {
+        Ok(answer) => {
+            let status = answer.status();
+            match tell(alloc, out, &answer) {
+                Ok(()) => status,
+                Err(Untold::WriteFault) => Status::WriteFault,
+                Err(Untold::NoMemory) => Status::NoMemory,
+            }
+        }
         Err(Stop::ReadFault) => Status::ReadFault,
         Err(Stop::NoMemory) => Status::NoMemory,
     }

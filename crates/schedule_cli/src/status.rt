@@ -1,5 +1,7 @@
-ghost use Rattle.std.specs.Prelude.{◌≡◌};
-ghost use Rattle.schedule_cli.specs.Status.{status_number};
+ghost use Rattle.std.specs.Prelude.{◌≡◌, ◌↔◌, IsTrue, OnOk, OnErr};
+ghost use Rattle.schedule_cli.specs.Status.{status_number, IsTold};
+
+use sched_base::Failed;
 
 /// How a run ended.
 #[derive(Clone, Copy, Debug, PartialEq, Eq)]
@@ -39,6 +41,27 @@ impl Status {
             Status::ReadFault => 6,
             Status::WriteFault => 7,
             Status::NoMemory => 8,
+        }
+    }
+    /// Whether an answer was told whole.
+    fn is_told(self) -> bool
+        ensures { IsTrue result ↔ IsTold self }
+    {
+        !matches!(
+            self,
+            Status::ReadFault | Status::WriteFault | Status::NoMemory
+        )
+    }
+
+    /// How the program ends, where what was told was handed on or not.
+    pub fn after(self, handed_on: Result<(), Failed>) -> Status
+        ensures whole { OnOk handed_on (result ≡ self) }
+        ensures cut_off { OnErr handed_on (IsTold self → result ≡ Status.WriteFault) }
+        ensures stopped { (IsTold self → ⊥) → result ≡ self }
+    {
+        match handed_on {
+            Err(Failed) if self.is_told() => Status::WriteFault,
+            _ => self,
         }
     }
 }

@@ -1,19 +1,33 @@
-ghost use Rattle.std.specs.Prelude.{◌≡◌, ◌≤◌, ◌∷◌, [], map, string_bytes, Some, None, IfOk, IfErr, OnOk};
+ghost use Rattle.std.specs.Prelude.{◌≡◌, ◌≤◌, ◌+◌, ◌∷◌, [], map, length, drop, codes, string_bytes, true, Some, None, IfOk, IfErr, OnOk};
 ghost use Rattle.psplib_lex.specs.Number.{digits_value};
 ghost use Rattle.schedule_cli.specs.declared.words.Command.TheVariants as commands;
-ghost use Rattle.schedule_cli.specs.Words.{first_bad, is_name, is_log_no, is_seed, is_jobs, is_modes, bad_word, word_at, modes_of, IsCommand, IsMakeable};
+ghost use Rattle.schedule_cli.specs.Options.{free_forms, AreWithin, ComeTo};
+ghost use Rattle.schedule_cli.specs.Words.{first_bad, is_name, is_seed, is_jobs, modes_form, workers_form, nodes_form, log_form, bad_word, word_at, number_behind, yes_behind, IsCommand, IsWithinReach};
 
-use crate::number::{modes_number, number_within};
+use crate::number::number_within;
+use crate::options::{Choice, Options};
 
 /// A command of the program, with its words.
 #[derive(Clone, Copy, Debug, PartialEq, Eq)]
 pub enum Command<'w> {
-    /// Solve the project under this name.
-    Solve { project: &'w str },
+    /// Solve the project under this name, by 1 to 32 workers and at most so many expansions, up to 100,000; and print the log,
+    /// or leave it out.
+    Solve {
+        project: &'w str,
+        workers: u32,
+        nodes: u32,
+        log: bool,
+    },
     /// Print the project under this name.
-    Show { project: &'w str },
+    Show {
+        project: &'w str,
+    },
     /// Print the project that is made from this seed: 3 to 128 jobs, with 1 to 4 modes.
-    Make { seed: u32, jobs: u8, modes: u8 },
+    Make {
+        seed: u32,
+        jobs: u8,
+        modes: u8,
+    },
 }
 
 /// Words that are no command.
@@ -23,16 +37,79 @@ pub struct BadWords {
     pub place: u32,
 }
 
+/// The options of `solve`.
+const SOLVE: Options = Options {
+    modes: Choice {
+        free: false,
+        value: 1,
+    },
+    workers: Choice {
+        free: true,
+        value: 1,
+    },
+    nodes: Choice {
+        free: true,
+        value: 50_000,
+    },
+    log: Choice {
+        free: true,
+        value: true,
+    },
+};
+
+/// The option of `make`.
+const MAKE: Options = Options {
+    modes: Choice {
+        free: true,
+        value: 1,
+    },
+    workers: Choice {
+        free: false,
+        value: 1,
+    },
+    nodes: Choice {
+        free: false,
+        value: 50_000,
+    },
+    log: Choice {
+        free: false,
+        value: true,
+    },
+};
+
+/// The options that words from this place on give.
+fn parse_options(words: &[String], place: u32, options: Options) -> Result<Options, BadWords>
+    requires few { place + length (free_forms options) ≤ 100 }
+    requires range { AreWithin options }
+    ensures command { OnOk result (first_bad [] (free_forms options) (map string_bytes words.now) place ≡ None) }
+    ensures fault { IfErr result (λ bad. first_bad [] (free_forms options) (map string_bytes words.now) place ≡ Some bad.place) }
+    ensures values { IfOk result (λ now. ComeTo options now (map string_bytes words.now) []) }
+    ensures range { IfOk result AreWithin }
+{
+    match words {
+        [] => Ok(options),
+        [word, rest @ ..] => match options.with_word(word.as_str()) {
+            Some(options) => parse_options(rest, place + 1, options),
+            None => Err(BadWords { place }),
+        },
+    }
+}
+
 /// The command that the words are.
 pub fn parse_words(words: &[String]) -> Result<Command<'_>, BadWords>
     ensures fault { IfErr result (λ bad. bad_word (map string_bytes words.now) ≡ Some bad.place) }
     ensures command { IfOk result (λ command. IsCommand (map string_bytes words.now) command) }
-    ensures makeable { IfOk result IsMakeable }
+    ensures reach { IfOk result IsWithinReach }
 {
     match words {
         [command, rest @ ..] if command.as_str() == "solve" => {
-            let project = parse_solve(rest)?;
-            Ok(Command::Solve { project })
+            let (project, options) = parse_solve(rest)?;
+            Ok(Command::Solve {
+                project,
+                workers: options.workers.value,
+                nodes: options.nodes.value,
+                log: options.log.value,
+            })
         }
         [command, rest @ ..] if command.as_str() == "show" => {
             let project = parse_show(rest)?;
@@ -46,29 +123,22 @@ pub fn parse_words(words: &[String]) -> Result<Command<'_>, BadWords>
     }
 }
 
-/// The name among the words after `solve`.
-fn parse_solve(words: &[String]) -> Result<&str, BadWords>
-    ensures command { OnOk result (first_bad (is_name ∷ is_log_no ∷ []) [] (map string_bytes words.now) 2 ≡ None) }
-    ensures fault { IfErr result (λ bad. first_bad (is_name ∷ is_log_no ∷ []) [] (map string_bytes words.now) 2 ≡ Some bad.place) }
-    ensures name { IfOk result (λ name. name.now ≡ word_at (map string_bytes words.now) 0) }
+/// The name and the options among the words after `solve`.
+fn parse_solve(words: &[String]) -> Result<(&str, Options), BadWords>
+    ensures command { OnOk result (first_bad (is_name ∷ []) (workers_form ∷ nodes_form ∷ log_form ∷ []) (map string_bytes words.now) 2 ≡ None) }
+    ensures fault { IfErr result (λ bad. first_bad (is_name ∷ []) (workers_form ∷ nodes_form ∷ log_form ∷ []) (map string_bytes words.now) 2 ≡ Some bad.place) }
+    ensures name { IfOk result (λ solve. solve.0.now ≡ word_at (map string_bytes words.now) 0) }
+    ensures workers { IfOk result (λ solve. solve.1.workers.value ≡ number_behind (codes "workers=") 1 (drop 1 (map string_bytes words.now))) }
+    ensures nodes { IfOk result (λ solve. solve.1.nodes.value ≡ number_behind (codes "nodes=") 50000 (drop 1 (map string_bytes words.now))) }
+    ensures log { IfOk result (λ solve. solve.1.log.value ≡ yes_behind (codes "log=") true (drop 1 (map string_bytes words.now))) }
+    ensures range { IfOk result (λ solve. AreWithin solve.1) }
 {
     match words {
-        [project, rest @ ..] if !project.is_empty() => match parse_log_no(rest) {
-            Ok(()) => Ok(project.as_str()),
+        [project, rest @ ..] if !project.is_empty() => match parse_options(rest, 3, SOLVE) {
+            Ok(options) => Ok((project.as_str(), options)),
             Err(bad) => Err(bad),
         },
         _ => Err(BadWords { place: 2 }),
-    }
-}
-
-/// The words after the name of the project to solve.
-fn parse_log_no(words: &[String]) -> Result<(), BadWords>
-    ensures command { OnOk result (first_bad (is_log_no ∷ []) [] (map string_bytes words.now) 3 ≡ None) }
-    ensures fault { IfErr result (λ bad. first_bad (is_log_no ∷ []) [] (map string_bytes words.now) 3 ≡ Some bad.place) }
-{
-    match words {
-        [log, rest @ ..] if log.as_str() == "log=no" => parse_end(rest, 4),
-        _ => Err(BadWords { place: 3 }),
     }
 }
 
@@ -100,12 +170,12 @@ fn parse_show(words: &[String]) -> Result<&str, BadWords>
 
 /// The seed, the number of jobs and the number of modes in the words after `make`.
 fn parse_make(words: &[String]) -> Result<(u32, u8, u8), BadWords>
-    ensures command { OnOk result (first_bad (is_seed ∷ is_jobs ∷ []) (is_modes ∷ []) (map string_bytes words.now) 2 ≡ None) }
-    ensures fault { IfErr result (λ bad. first_bad (is_seed ∷ is_jobs ∷ []) (is_modes ∷ []) (map string_bytes words.now) 2 ≡ Some bad.place) }
+    ensures command { OnOk result (first_bad (is_seed ∷ is_jobs ∷ []) (modes_form ∷ []) (map string_bytes words.now) 2 ≡ None) }
+    ensures fault { IfErr result (λ bad. first_bad (is_seed ∷ is_jobs ∷ []) (modes_form ∷ []) (map string_bytes words.now) 2 ≡ Some bad.place) }
     ensures seed { IfOk result (λ made. made.0 ≡ digits_value (word_at (map string_bytes words.now) 0)) }
     ensures jobs { IfOk result (λ made. made.1 ≡ digits_value (word_at (map string_bytes words.now) 1)) }
-    ensures modes { IfOk result (λ made. made.2 ≡ modes_of (word_at (map string_bytes words.now) 2)) }
-    ensures range { IfOk result (λ made. IsMakeable (commands.Make made.0 made.1 made.2)) }
+    ensures modes { IfOk result (λ made. made.2 ≡ number_behind (codes "modes=") 1 (drop 2 (map string_bytes words.now))) }
+    ensures range { IfOk result (λ made. IsWithinReach (commands.Make made.0 made.1 made.2)) }
 {
     let [word, rest @ ..] = words else {
         return Err(BadWords { place: 2 });
@@ -119,10 +189,10 @@ fn parse_make(words: &[String]) -> Result<(u32, u8, u8), BadWords>
 
 /// The number of jobs and the number of modes in the words after the seed.
 fn parse_size(words: &[String]) -> Result<(u8, u8), BadWords>
-    ensures command { OnOk result (first_bad (is_jobs ∷ []) (is_modes ∷ []) (map string_bytes words.now) 3 ≡ None) }
-    ensures fault { IfErr result (λ bad. first_bad (is_jobs ∷ []) (is_modes ∷ []) (map string_bytes words.now) 3 ≡ Some bad.place) }
+    ensures command { OnOk result (first_bad (is_jobs ∷ []) (modes_form ∷ []) (map string_bytes words.now) 3 ≡ None) }
+    ensures fault { IfErr result (λ bad. first_bad (is_jobs ∷ []) (modes_form ∷ []) (map string_bytes words.now) 3 ≡ Some bad.place) }
     ensures jobs { IfOk result (λ size. size.0 ≡ digits_value (word_at (map string_bytes words.now) 0)) }
-    ensures modes { IfOk result (λ size. size.1 ≡ modes_of (word_at (map string_bytes words.now) 1)) }
+    ensures modes { IfOk result (λ size. size.1 ≡ number_behind (codes "modes=") 1 (drop 1 (map string_bytes words.now))) }
     ensures some_jobs { IfOk result (λ size. (3 ≤ size.0) × (size.0 ≤ 128)) }
     ensures some_modes { IfOk result (λ size. (1 ≤ size.1) × (size.1 ≤ 4)) }
 {
@@ -132,25 +202,6 @@ fn parse_size(words: &[String]) -> Result<(u8, u8), BadWords>
     let Some(jobs) = number_within(word.as_bytes(), 3, 128) else {
         return Err(BadWords { place: 3 });
     };
-    let modes = parse_modes(rest)?;
-    Ok((jobs as u8, modes))
-}
-
-/// The number of modes in the words after the number of jobs: one where none is left.
-fn parse_modes(words: &[String]) -> Result<u8, BadWords>
-    ensures command { OnOk result (first_bad [] (is_modes ∷ []) (map string_bytes words.now) 4 ≡ None) }
-    ensures fault { IfErr result (λ bad. first_bad [] (is_modes ∷ []) (map string_bytes words.now) 4 ≡ Some bad.place) }
-    ensures modes { IfOk result (λ modes. modes ≡ modes_of (word_at (map string_bytes words.now) 0)) }
-    ensures range { IfOk result (λ modes. (1 ≤ modes) × (modes ≤ 4)) }
-{
-    let [word, rest @ ..] = words else {
-        return Ok(1);
-    };
-    let Some(modes) = modes_number(word.as_bytes()) else {
-        return Err(BadWords { place: 4 });
-    };
-    match parse_end(rest, 5) {
-        Ok(()) => Ok(modes),
-        Err(bad) => Err(bad),
-    }
+    let options = parse_options(rest, 4, MAKE)?;
+    Ok((jobs as u8, options.modes.value as u8))
 }

@@ -1,14 +1,14 @@
 -- The rows of children, and those of them that wait.
-use Rattle.std.proofs.Common.{◌≡◌, ℕ, zero, suc, ◌+◌, ◌-◌, ◌<◌, ◌≤◌, refl, sym, ap, subst, ◌∙◌, arith, List, [], ◌∷◌, ◌++◌, length, length-append, append_assoc, map, All, Option, Some, None}
+use Rattle.std.proofs.Common.{◌≡◌, ℕ, zero, suc, ◌+◌, ◌-◌, ◌<◌, refl, sym, ap, subst, ◌∙◌, arith, List, [], ◌∷◌, ◌++◌, length, length-append, append_assoc, map, All, Some, None}
 use Rattle.std.specs.List.{AllZip}
-use Rattle.std.proofs.lemmas.List.{get_or_at, length-map}
+use Rattle.std.proofs.lemmas.List.{get_or_at}
 use Rattle.std.proofs.lemmas.List.Elements.{All-cons, All-nil, All-head, All-tail}
 use Rattle.rcpsp_model.specs.declared.parts.Child.{Child}
 use Rattle.rcpsp_model.specs.declared.parts.Child.TheVariants.{Placed, Shut}
 use Rattle.rcpsp_model.specs.declared.parts.Entry.{Entry}
 use Rattle.rcpsp_model.specs.declared.parts.Verdict.{Verdict}
 use Rattle.rcpsp_model.specs.Project.{Project}
-use Rattle.rcpsp_model.specs.Tree.{Choice, entry_at, IsChild, IsShut}
+use Rattle.rcpsp_model.specs.Tree.{Choice, entry_at, IsChild}
 use Rattle.precedence_tree.specs.Node.{NodeState, StandsFor}
 use Rattle.precedence_tree.specs.Children.{child_front, StandsWherePlaced}
 use Rattle.log_truth.specs.Log.{Branch, by_choice}
@@ -16,16 +16,15 @@ use Rattle.search_log.specs.declared.row.RowFate.TheVariants as fate
 use Rattle.search_log.specs.declared.row.Row.{Row}
 use Rattle.search_log.specs.declared.row.Origin.{Origin}
 use Rattle.search_log.specs.Weights.{total, over, Each}
-use Rattle.search_log.specs.Table.{no_row, row_at, says_row, children_of}
+use Rattle.search_log.specs.Table.{row_at, says_row, children_of}
 use Rattle.search_log.specs.Stands.{TreeNode, no_node, node_at, RowSuits, IsAtPlace, if_open}
 use Rattle.search_log.specs.Laws.{child_node, child_row}
 use Rattle.search_log.proofs.Sums.{total-append, Each-append}
 use Rattle.search_log.proofs.GrownTables.{child_rows_law}
-use Rattle.search_rounds.specs.declared.round.NewRow.{NewRow}
 use Rattle.search_rounds.specs.declared.round.WaitingNode.{WaitingNode}
 use Rattle.search_rounds.specs.Round.{waits_at, waiting_of}
 use Rattle.steal_rounds.specs.Children.{last_placed, placed_row, row_of_child, new_row, waiting_child, placed_from}
-use Rattle.steal_rounds.specs.Part.{Beginning, IsNewRow}
+use Rattle.steal_rounds.specs.Part.{Beginning, IsNewRow, IsByOneOf}
 
 -- the node of the tree for which a child stands
 abbrev pub kid_node : List Entry → Choice → Child NodeState → TreeNode
@@ -175,10 +174,10 @@ pub rows-of_new : (o : Origin) (kids : List (Child NodeState)) → map (λ n. n.
 rows-of_new o [] = refl
 rows-of_new o (kid ∷ kids) = ap (λ (rs : List Row). row_of_child kid ∷ rs) (rows-of_new o kids)
 
-child-new : (b : Beginning) (o : Origin) (kid : Child NodeState) → o.round ≡ b.terms.number → o.worker ≡ b.worker → IsNewRow b (new_row o kid)
+child-new : (b : Beginning) (o : Origin) (kid : Child NodeState) → o.round ≡ b.terms.number → IsByOneOf b o → IsNewRow b (new_row o kid)
 child-new b o (Placed node) r w = record { says = tt; round = r; worker = w }
 child-new b o (Shut j m why) r w = record { says = tt; round = r; worker = w }
 
-pub kid-new : (b : Beginning) (o : Origin) (kids : List (Child NodeState)) → o.round ≡ b.terms.number → o.worker ≡ b.worker → Each (IsNewRow b) (map (new_row o) kids)
+pub kid-new : (b : Beginning) (o : Origin) (kids : List (Child NodeState)) → o.round ≡ b.terms.number → IsByOneOf b o → Each (IsNewRow b) (map (new_row o) kids)
 kid-new b o [] r w = tt
 kid-new b o (kid ∷ kids) r w = (child-new b o kid r w, kid-new b o kids r w)

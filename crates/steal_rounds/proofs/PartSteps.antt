@@ -1,31 +1,27 @@
 -- One visit more of a part, by what it answers.
-use Rattle.std.proofs.Common.{◌≡◌, ℕ, zero, suc, ◌+◌, ◌*◌, ◌<◌, ◌≤◌, ◌⊎◌, inl, inr, refl, sym, ap, subst, ◌∙◌, arith, List, [], ◌∷◌, ◌++◌, length, length-append, append_assoc, map, All, Option, Some, None}
-use Rattle.std.specs.Prelude.{IfSome, Contains, slice_index, slice_index_or}
+use Rattle.std.proofs.Common.{◌≡◌, ℕ, ◌+◌, ◌<◌, ◌≤◌, ◌⊎◌, inl, inr, sym, ap, subst, ◌∙◌, arith, List, [], ◌∷◌, ◌++◌, length, map, All, Option, Some, None}
+use Rattle.std.specs.Prelude.{Contains}
+use Rattle.std.specs.List.{AllZip}
 use Rattle.std.proofs.lemmas.Bool.{cases_lt}
-use Rattle.std.proofs.lemmas.List.{get_or_append_left, get_or_past, length-map, map-append}
-use Rattle.std.proofs.lemmas.List.Elements.{All-cons, All-nil, All-weaker}
+use Rattle.std.proofs.lemmas.List.{get_or_append_left, get_or_past}
 use Rattle.rcpsp_model.specs.declared.parts.Entry.{Entry}
 use Rattle.rcpsp_model.specs.Project.{Project}
 use Rattle.rcpsp_model.specs.Dominance.{Dominates}
-use Rattle.rcpsp_model.proofs.Lists.{In, In-All, In-from_Contains, Contains-from_In}
-use Rattle.log_truth.specs.Fates.{late_leaf}
 use Rattle.search_log.specs.declared.row.Row.{Row}
 use Rattle.search_log.specs.declared.row.Fill.{Fill}
 use Rattle.search_log.specs.Weights.{total, over, Each}
-use Rattle.search_log.specs.Fates.{row_late, row_cites, row_saying}
+use Rattle.search_log.specs.Fates.{row_cites, row_saying}
 use Rattle.search_log.specs.Table.{says_row, row_at, children_of}
-use Rattle.search_log.specs.Stands.{TreeNode, no_node, node_at, place_front, searching, IsNoLater, FillSuits, RowSuits, Waiting, IsAtPlace, Grows, if_open}
+use Rattle.search_log.specs.Stands.{TreeNode, no_node, place_front, searching, IsNoLater, FillSuits, RowSuits, Waiting, IsAtPlace, Grows, if_open}
 use Rattle.search_log.proofs.Sums.{total-append, Each-append, Each-weaker}
 use Rattle.search_log.proofs.VerdictChanges.{searching-suits, searching-row}
 use Rattle.search_log.proofs.GrownTables.{gather_law}
-use Rattle.search_rounds.specs.declared.round.NewRow.{NewRow}
 use Rattle.search_rounds.specs.declared.round.WaitingNode.{WaitingNode}
-use Rattle.search_rounds.specs.declared.round.PlacedRecord.{PlacedRecord}
-use Rattle.search_rounds.specs.Round.{waits_at, waiting_of}
+use Rattle.search_rounds.specs.Round.{waiting_of}
 use Rattle.tree_worker.specs.Worker.{Progress}
 use Rattle.steal_rounds.specs.Ends.{end_in}
-use Rattle.steal_rounds.specs.Part.{Beginning, PartState, Event, fills_of, says_event, IsExpansion, IsAtNode, IsEventOf, AreInTurns, IsCitedIn, IsMadeIn, HasRecord, IsOffered, IsPartAt}
-use Rattle.steal_rounds.proofs.EventSteps.{pushed, old-event, new-event, turns-push, cited-more, made-more, offered-more, later-event, fills-push, fills-length}
+use Rattle.steal_rounds.specs.Part.{Beginning, PartState, Event, says_event, IsExpansion, IsAtNode, IsEventOf, IsCitedIn, IsCitedLive, IsMadeIn, HasRecord, IsOffered, IsPartAt}
+use Rattle.steal_rounds.proofs.EventSteps.{got-pushed, turns-push, cited-more, later-event, fills-push}
 
 -- a place that has a front is one of the nodes
 pub node-inside : (ns : List TreeNode) (p : ℕ) (F : List Entry) → place_front ns p ≡ Some F → p < length ns
@@ -107,10 +103,11 @@ pub next_at : (P : Project) (b : Beginning) (ns : List TreeNode) (at now : Progr
     Grows P (searching (end_in now.pass.least_seen)) b.table.rows ns (waiting_of b.dealt) (map (λ n. n.row) t.grown) more t.fills (waiting_of t.left) →
     IsAtNode (ns ++ more) x → now.pass.least_seen ≤ at.pass.least_seen → IsEventOf P b now.pass.least_seen x → x.fill.origin.turn ≡ length old.events + 1 →
     ((e : Event) → Contains old.events e → IsExpansion e → IsExpansion x → Dominates P e.front x.front → ⊥) → ((e : Event) (y : IsExpansion x) → Contains (old.events ++ x ∷ []) e → e.fill.place < y.first) →
-    ((q : ℕ) → says_event x ≡ row_cites q → IsCitedIn P b old.events q x.front) → All (IsMadeIn P (old.events ++ x ∷ [])) t.made →
+    ((q : ℕ) → says_event x ≡ row_cites q → IsCitedIn P b old.events q x.front ⊎ Contains t.live (length old.events)) → ((i : ℕ) → Contains s.live i → Contains t.live i) →
+    AllZip (IsCitedLive P (old.events ++ x ∷ [])) t.live now.worker.live → All (IsMadeIn P (old.events ++ x ∷ [])) t.made →
     ((e : Event) → Contains (old.events ++ x ∷ []) e → IsExpansion e → HasRecord t.made e) → All (IsOffered P b (old.events ++ x ∷ [])) now.pass.offers →
     IsPartAt P b ns now t
-next_at P b ns at now s t x old more stable fills grows node falls event turn own before cites made made_all offered = record {
+next_at P b ns at now s t x old more stable fills grows node falls event turn own before cites kept live made made_all offered = record {
   more = more;
   events = old.events ++ x ∷ [];
   fills = fills ∙ (ap (λ (fs : List Fill). fs ++ x.fill ∷ []) old.fills ∙ sym (fills-push old.events x));
@@ -118,10 +115,14 @@ next_at P b ns at now s t x old more stable fills grows node falls event turn ow
   at_nodes = Each-append (IsAtNode (ns ++ more)) old.events (x ∷ []) (Each-weaker (IsAtNode (ns ++ old.more)) (IsAtNode (ns ++ more)) old.events (λ e is. stable e.fill.place e.front is) old.at_nodes) (node, tt);
   each = Each-append (IsEventOf P b now.pass.least_seen) old.events (x ∷ []) (later-event P b at.pass.least_seen now.pass.least_seen old.events falls old.each) (event, tt);
   turns = turns-push P old.events x old.turns turn own before;
-  cites = λ e q c says. cited-more P b old.events x q e.front (elim (pushed old.events x e c) [
-    | inl i ↦ old.cites e q i says
-    | inr same ↦ subst (λ (y : Event). IsCitedIn P b old.events q y.front) same (cites q (ap says_event same ∙ says))
-  ]);
+  cites = λ i q e g says. elim (got-pushed old.events x e i g) [
+    | inl there ↦ elim (old.cites i q e there says) [ inl c ↦ inl (cited-more P b old.events x q e.front c) | inr k ↦ inr (kept i k) ]
+    | inr last ↦ elim (cites q (ap says_event last.1 ∙ says)) [
+      | inl c ↦ inl (subst (λ (y : Event). IsCitedIn P b (old.events ++ x ∷ []) q y.front) last.1 (cited-more P b old.events x q x.front c))
+      | inr k ↦ inr (subst (Contains t.live) (sym last.0) k)
+    ]
+  ];
+  live = live;
   made = made;
   made_all = made_all;
   offered = offered;

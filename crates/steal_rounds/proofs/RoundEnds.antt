@@ -1,60 +1,46 @@
 -- A part at its end is a round.
-use Rattle.std.proofs.Common.{◌≡◌, ℕ, zero, suc, ◌+◌, ◌-◌, ◌<◌, ◌≤◌, ◌⊎◌, inl, inr, refl, sym, ap, subst, ◌∙◌, arith, List, [], ◌∷◌, ◌++◌, length, length-append, append-nil, map, All, Option, Some, None, Bool, true, false}
+use Rattle.std.proofs.Common.{◌≡◌, ℕ, zero, suc, ◌+◌, ◌-◌, ◌<◌, ◌≤◌, ◌⊎◌, inl, inr, refl, sym, ap, subst, ◌∙◌, arith, List, [], ◌∷◌, ◌++◌, length, length-append, map, All, Some, None, true, false}
 use Rattle.std.specs.Prelude.{IfSome, Contains, slice_index, slice_index_or}
 use Rattle.std.specs.List.{AllZip}
 use Rattle.std.proofs.lemmas.Bool.{cases_lt}
-use Rattle.std.proofs.lemmas.List.{get_or_append_left, get_or-append_right, get_or_past, length-map}
-use Rattle.std.proofs.lemmas.List.Elements.{All-nil, All-weaker}
+use Rattle.std.proofs.lemmas.List.{get_or_append_left, get_or-append_right, length-map}
+use Rattle.std.proofs.lemmas.List.Elements.{All-weaker}
 use Rattle.rcpsp_model.specs.declared.parts.Entry.{Entry}
-use Rattle.rcpsp_model.specs.declared.parts.Placing.{Placing}
 use Rattle.rcpsp_model.specs.declared.parts.Shut.{Shut as Why}
-use Rattle.rcpsp_model.specs.Project.{Project, numbers_from}
-use Rattle.rcpsp_model.specs.Schedule.{end_of}
-use Rattle.rcpsp_model.specs.Chain.{IsLeast}
-use Rattle.rcpsp_model.specs.Tree.{Choice}
-use Rattle.rcpsp_model.specs.Bounds.{IsLowerBound}
+use Rattle.rcpsp_model.specs.Project.{Project}
 use Rattle.rcpsp_model.specs.Dominance.{Dominates}
-use Rattle.rcpsp_model.specs.Claim.{EndsAt, HasDuration}
-use Rattle.rcpsp_model.proofs.Lists.{In, In-All, In-from_Contains, Contains-from_In, All-from_In}
+use Rattle.rcpsp_model.proofs.Lists.{In, In-from_Contains, Contains-from_In}
 use Rattle.rcpsp_model.proofs.Choices.{In-map, map-In}
-use Rattle.log_truth.specs.Fates.{Saying, says_late, late_leaf, shuts}
-use Rattle.log_truth.specs.Log.{by_choice}
+use Rattle.log_truth.specs.Fates.{says_late, late_leaf, shuts}
 use Rattle.precedence_tree.specs.declared.base.Base.{Base}
-use Rattle.precedence_tree.specs.Node.{StandsFor}
 use Rattle.cutset_store.specs.Index.{fronts_of}
 use Rattle.search_log.specs.declared.row.Row.{Row}
 use Rattle.search_log.specs.declared.row.Origin.{Origin}
 use Rattle.search_log.specs.declared.row.Fill.{Fill}
-use Rattle.search_log.specs.declared.table.Table.{Table}
 use Rattle.search_log.specs.Weights.{total, Each}
-use Rattle.search_log.specs.Fates.{RowSaying, row_open, row_expanded, row_late, row_cites, row_shut, row_saying}
-use Rattle.search_log.specs.Table.{no_row, row_at, says_row, says_at, children_of}
-use Rattle.search_log.specs.Stands.{TreeNode, no_node, branch_at, place_front, searching, IsClosed, Stands, Grows, fill_rows, fill_origins, IsExpandedAt, CitesRow, one_expanded, expanded_rows}
+use Rattle.search_log.specs.Fates.{RowSaying, row_open, row_expanded, row_late, row_cites, row_shut}
+use Rattle.search_log.specs.Table.{no_row, row_at, says_row, says_at}
+use Rattle.search_log.specs.Stands.{TreeNode, place_front, searching, IsClosed, Stands, Grows, fill_rows, fill_origins, IsExpandedAt, CitesRow, one_expanded, expanded_rows}
 use Rattle.search_log.specs.Told.{no_origin, origin_at}
-use Rattle.search_log.specs.Lean.{Seen, seen_row, none_yet, end_number, IsEnd, of_first, of_leaf, expands_line, IsAfterParent}
-use Rattle.search_log.specs.Laws.{PlaceRow, row_with, place_row, filled_row, written, IsWritten}
+use Rattle.search_log.specs.Lean.{seen_row}
+use Rattle.search_log.specs.Laws.{PlaceRow, place_row, filled_row}
 use Rattle.search_log.proofs.Sums.{total-append, Each-In}
 use Rattle.search_log.proofs.RowLines.{told, saying-told}
 use Rattle.search_log.proofs.FilledRows.{fills_law}
 use Rattle.search_log.proofs.StayingRows.{comes_law, from_law, expanded-stays}
 use Rattle.search_log.proofs.GrownTables.{grow_law}
-use Rattle.search_log.proofs.OneParent.{parent_law}
 use Rattle.search_log.proofs.ToldLogs.{expanded-inside}
-use Rattle.search_table.specs.Lists.{least}
 use Rattle.search_rounds.specs.declared.round.NewRow.{NewRow}
-use Rattle.search_rounds.specs.declared.round.WaitingNode.{WaitingNode}
 use Rattle.search_rounds.specs.declared.round.PlacedRecord.{PlacedRecord}
-use Rattle.search_rounds.specs.declared.round.Records.{Records}
-use Rattle.search_rounds.specs.declared.round.Terms.{Terms}
-use Rattle.search_rounds.specs.declared.round.RoundResult.{RoundResult}
-use Rattle.search_rounds.specs.Round.{waiting_of, IsRecordOf, AreRecords, rows_after, origins_after, IsVisited, IsEarlierTurn, IsLeanRound, IsAmong, BringsPlan, VisitedIn, line_after, IsRound}
-use Rattle.search_rounds.proofs.FilledSums.{open_or_closed, closed-not_open, said-closed, expanded-closed, line-expanded, length-fill_rows, expanded-filled}
-use Rattle.tree_worker.specs.Worker.{HasPlan, Progress}
+use Rattle.search_rounds.specs.Round.{waiting_of, IsRecordOf, AreRecords, VisitedIn}
+use Rattle.search_rounds.proofs.FilledSums.{closed-not_open, length-fill_rows, expanded-filled}
+use Rattle.tree_worker.specs.Worker.{Progress}
 use Rattle.steal_rounds.specs.Ends.{end_in}
 use Rattle.steal_rounds.specs.Ended.{result_of}
-use Rattle.steal_rounds.specs.Part.{Beginning, PartState, Event, fills_of, says_event, IsExpansion, IsAtNode, IsEventOf, IsCitedIn, by_earlier, by_own, IsMadeIn, HasRecord, IsOffered, IsNewSaying, IsNewRow, IsPartAt, IsPart}
-use Rattle.steal_rounds.proofs.EndNumbers.{end_in-some, number-end_in, end-small, later-end, no_later-end}
-use Rattle.steal_rounds.proofs.PartSteps.{node-inside, front-more, grows-later}
+use Rattle.steal_rounds.specs.Part.{Beginning, IsByOneOf, PartState, Event, fills_of, says_event, IsExpansion, IsAtNode, IsCitedIn, by_earlier, by_own, IsMadeIn, IsNewSaying, IsNewRow, IsPartAt, IsPart}
+use Rattle.steal_rounds.proofs.EndNumbers.{end-small, later-end, no_later-end}
+use Rattle.steal_rounds.proofs.PartSteps.{front-more, grows-later}
+use Rattle.steal_rounds.proofs.ListPlaces.{Each-at, In-get}
 
 -- A part at its end, on a table that stands for the nodes ns.
 pub record Ending (P : Project) (b : Beginning) (ns : List TreeNode) (at : Progress) (s : PartState) (best : ℕ) : Type 0 where
@@ -63,6 +49,7 @@ pub record Ending (P : Project) (b : Beginning) (ns : List TreeNode) (at : Progr
   pub known : AreRecords P b.table.rows ns b.records
   pub part : IsPart P b at s
   pub at_tree : IsPartAt P b ns at s
+  pub none_live : s.live ≡ []
   pub falls : best ≤ at.pass.least_seen
   pub soon : IfSome b.terms.best (λ end. end ≤ 1290000)
 
@@ -116,7 +103,7 @@ pub record ByParent (b : Beginning) (s : PartState) (p : ℕ) : Type 0 where
   pub why : Why
   pub says : says_at (after_rows b s) p ≡ row_shut why
   pub round : (origin_at (after_origins b s) p).round ≡ b.terms.number
-  pub worker : (origin_at (after_origins b s) p).worker ≡ b.worker
+  pub worker : IsByOneOf b (origin_at (after_origins b s) p)
 
 pub event-at : (P : Project) (b : Beginning) (ns : List TreeNode) (at : Progress) (s : PartState) (best : ℕ) → (k : Ending P b ns at s best) → (e : Event) → In k.at_tree.events e → ByEvent b s k.at_tree.events e.fill.place
 event-at P b ns at s best k e i =
@@ -128,11 +115,6 @@ pub event-written : (P : Project) (b : Beginning) (ns : List TreeNode) (at : Pro
     (says_at (after_rows b s) e.fill.place ≡ says_event e) × (origin_at (after_origins b s) e.fill.place ≡ e.fill.origin)
 unfolding event-at
 event-written P b ns at s best k e i = let y = event-at P b ns at s best k e i in (y.says, y.origin)
-
-Each-at : {X : Type 0} (Q : X → Type 0) (xs : List X) (i : ℕ) (d : X) → Each Q xs → i < length xs → Q (slice_index_or xs i d)
-Each-at Q [] i d e l = absurd (omega arith)
-Each-at Q (x ∷ xs) zero d e l = e.0
-Each-at Q (x ∷ xs) (suc i) d e l = Each-at Q xs i d e.1 (omega arith)
 
 map-at : {X Y : Type 0} (f : X → Y) (xs : List X) (i : ℕ) (d : X) (c : Y) → i < length xs → slice_index_or (map f xs) i c ≡ f (slice_index_or xs i d)
 map-at f [] i d c l = absurd (omega arith)
@@ -173,11 +155,12 @@ grown-at P b ns at s best p k v same =
           let own : origin_at (grown_origins b s) p ≡ n.origin = get_or-append_right b.table.origins os (length T) p no_origin so fresh ∙ map-at (λ (n : NewRow). n.origin) s.grown i d no_origin l in
           let said : says_at (after_rows b s) p ≡ says_row n.row = says ∙ ap says_row row in
           let shut = shut-new (says_row n.row) is.says (subst IsClosed said v.closed) in
+          let given : origin_at (after_origins b s) p ≡ n.origin = origin ∙ own in
           record {
             why = shut.0;
             says = said ∙ shut.1;
-            round = ap (λ (o : Origin). o.round) (origin ∙ own) ∙ is.round;
-            worker = ap (λ (o : Origin). o.worker) (origin ∙ own) ∙ is.worker;
+            round = subst (λ (o : Origin). o.round ≡ b.terms.number) (sym given) is.round;
+            worker = subst (IsByOneOf b) (sym given) is.worker;
           })
     ]
 
@@ -281,7 +264,13 @@ end-cites P b ns at s best k p q F v says front =
     elim (visited-cases P b ns at s best p k v) [
       | inl e ↦ (
           let own = event-front (ns ++ k.at_tree.more) k.at_tree.events e.event p F k.at_tree.at_nodes e.among e.place front in
-          cites-row P b ns at s best q F k (subst (IsCitedIn P b k.at_tree.events q) own (k.at_tree.cites e.event q (Contains-from_In k.at_tree.events e.event e.among) (sym e.says ∙ says))))
+          let here = In-get k.at_tree.events e.event e.among in
+          let cited : IsCitedIn P b k.at_tree.events q e.event.front =
+          elim (k.at_tree.cites here.place q e.event here.is (sym e.says ∙ says)) [
+            | inl is ↦ is
+            | inr live ↦ absurd (subst (λ (xs : List ℕ). In xs here.place) k.none_live (In-from_Contains s.live here.place live))
+          ] in
+          cites-row P b ns at s best q F k (subst (IsCitedIn P b k.at_tree.events q) own cited))
       | inr g ↦ absurd (let bad : row_shut g.why ≡ row_cites q = sym g.says ∙ says in cc)
     ]
 

@@ -1,6 +1,6 @@
 -- A part at its end is a round: what may not be wasted, the best, and the plan.
-use Rattle.std.proofs.Common.{◌≡◌, ℕ, ◌+◌, ◌<◌, ◌≤◌, ◌⊎◌, inl, inr, refl, sym, ap, subst, ◌∙◌, arith, List, [], ◌∷◌, ◌++◌, length, append-nil, map, All, Option, Some, None, true, min}
-use Rattle.std.specs.Prelude.{IfSome, Contains}
+use Rattle.std.proofs.Common.{◌≡◌, ℕ, ◌<◌, ◌≤◌, ◌⊎◌, inl, inr, refl, sym, ap, subst, ◌∙◌, arith, List, [], ◌∷◌, ◌++◌, length, map, All, Option, Some, None, true, min}
+use Rattle.std.specs.Prelude.{IfSome}
 use Rattle.std.proofs.Common.{get_or-set_other}
 use Rattle.std.proofs.lemmas.Bool.{cases_lt, cases_eq}
 use Rattle.std.proofs.lemmas.List.{get_or_append_left}
@@ -9,48 +9,38 @@ use Rattle.rcpsp_model.proofs.Choices.{In-map}
 use Rattle.search_log.specs.declared.row.Row.{Row}
 use Rattle.search_log.proofs.FilledRows.{fill-open, filled-one}
 use Rattle.search_rounds.specs.declared.round.NewRow.{NewRow}
-use Rattle.std.proofs.lemmas.List.Elements.{All-nil, All-head, All-tail, All-weaker}
+use Rattle.std.proofs.lemmas.List.Elements.{All-head, All-tail, All-weaker}
 use Rattle.rcpsp_model.specs.declared.parts.Entry.{Entry}
 use Rattle.rcpsp_model.specs.declared.parts.Placing.{Placing}
 use Rattle.rcpsp_model.specs.Project.{Project, numbers_from}
 use Rattle.rcpsp_model.specs.Schedule.{end_of}
 use Rattle.rcpsp_model.specs.Chain.{IsLeast}
-use Rattle.rcpsp_model.specs.Tree.{Choice}
 use Rattle.rcpsp_model.specs.Bounds.{IsLowerBound}
 use Rattle.rcpsp_model.specs.Dominance.{Dominates}
-use Rattle.rcpsp_model.specs.Claim.{EndsAt, HasDuration}
+use Rattle.rcpsp_model.specs.Claim.{HasDuration}
 use Rattle.rcpsp_model.proofs.Lists.{In, In-from_Contains, Contains-from_In}
 use Rattle.rcpsp_model.proofs.LeastModes.{numbers-range}
-use Rattle.log_truth.specs.Fates.{says_late, late_leaf}
-use Rattle.log_truth.specs.Log.{by_choice}
 use Rattle.precedence_tree.specs.declared.base.Base.{Base}
 use Rattle.precedence_tree.specs.Node.{StandsFor}
-use Rattle.cutset_store.specs.Index.{fronts_of}
 use Rattle.search_log.specs.declared.row.Fill.{Fill}
 use Rattle.search_log.specs.declared.row.Origin.{Origin}
-use Rattle.search_log.specs.declared.table.Table.{Table}
-use Rattle.search_log.specs.Weights.{Each}
-use Rattle.search_log.specs.Fates.{RowSaying, row_open, row_expanded, row_late, row_saying}
+use Rattle.search_log.specs.Fates.{RowSaying, row_open, row_expanded, row_saying}
 use Rattle.search_log.specs.Table.{no_row, row_at, says_row, says_at, children_of}
-use Rattle.search_log.specs.Stands.{TreeNode, place_front, searching, Waiting, IsAtPlace, FillSuits, IsClosed, Grows, Stands, IsExpandedAt, filled, fill_row, one_expanded}
-use Rattle.search_log.specs.Lean.{Seen, none_yet, end_number, IsEnd, of_first, of_leaf, expands_line, IsAfterParent}
+use Rattle.search_log.specs.Stands.{TreeNode, place_front, searching, Waiting, FillSuits, IsClosed, Stands, filled, fill_row, one_expanded}
+use Rattle.search_log.specs.Lean.{Seen, none_yet, end_number, IsEnd, of_first, of_leaf, expands_line}
 use Rattle.search_log.proofs.Sums.{Each-In}
 use Rattle.search_log.proofs.RowLines.{told}
 use Rattle.search_log.proofs.OneParent.{parent_law}
-use Rattle.search_log.proofs.ToldLogs.{expanded-inside}
 use Rattle.search_table.specs.Lists.{least}
-use Rattle.search_rounds.specs.declared.round.WaitingNode.{WaitingNode}
-use Rattle.search_rounds.specs.declared.round.Records.{Records}
-use Rattle.search_rounds.specs.declared.round.Terms.{Terms}
-use Rattle.search_rounds.specs.Round.{waiting_of, AreRecords, IsEarlierTurn, IsLeanRound, IsAmong, BringsPlan, VisitedIn, line_after, IsRound, IsRoundOn}
+use Rattle.search_rounds.specs.Round.{waiting_of, IsLeanRound, IsAmong, BringsPlan, VisitedIn, line_after, IsRound}
 use Rattle.search_rounds.proofs.FilledSums.{line-expanded, length-fill_rows}
 use Rattle.tree_worker.specs.Worker.{HasPlan, Progress}
 use Rattle.steal_rounds.specs.Ends.{end_in}
-use Rattle.steal_rounds.specs.Ended.{result_of}
-use Rattle.steal_rounds.specs.Part.{Beginning, PartState, Event, says_event, IsExpansion, IsAtNode, IsEventOf, IsOffered, IsMadeIn, IsPartAt, IsPart}
-use Rattle.steal_rounds.specs.Turns.{beginning, Stage, KeepsPart}
+use Rattle.steal_rounds.specs.Ended.{IsWholeCrew, HasEnded, result_of}
+use Rattle.steal_rounds.proofs.PartLaws.{RoundLaw}
+use Rattle.steal_rounds.specs.Part.{Beginning, IsByOneOf, PartState, Event, IsSameWorker, says_event, IsExpansion, IsAtNode, IsEventOf, IsOffered}
 use Rattle.steal_rounds.proofs.EndNumbers.{end_in-none, end_in-some, number-end_in, end-small, no_later-end}
-use Rattle.steal_rounds.proofs.TurnSteps.{part_by}
+use Rattle.steal_rounds.proofs.WiderParts.{begins-on, in_order-part}
 use Rattle.steal_rounds.proofs.RoundWords.{some-fills}
 use Rattle.steal_rounds.proofs.RoundEnds.{Ending, grown_table, mid, event-written, after_rows, after_origins, grows-end, after, ByEvent, ByParent, ExpandedEvent, visited-cases, event-at, leaf-said, said-of, shut-line, expanded-event, event-front, end-cites, end-made, end-made_all, end-used}
 
@@ -61,20 +51,20 @@ abbrev visited : Beginning → PartState → ℕ → ℕ → Type 0
 visited b s best = VisitedIn b.table (result_of s None best)
 
 origin-facts : (P : Project) (b : Beginning) (ns : List TreeNode) (at : Progress) (s : PartState) (best p : ℕ) → (k : Ending P b ns at s best) → visited b s best p →
-    ((line b s (ns ++ k.at_tree.more) best p).origin.round ≡ b.terms.number) × ((line b s (ns ++ k.at_tree.more) best p).origin.worker ≡ b.worker)
+    ((line b s (ns ++ k.at_tree.more) best p).origin.round ≡ b.terms.number) × IsByOneOf b (line b s (ns ++ k.at_tree.more) best p).origin
 origin-facts P b ns at s best p k v =
     elim (visited-cases P b ns at s best p k v) [
       | inl e ↦ (
           let is = Each-In (IsEventOf P b at.pass.least_seen) k.at_tree.events e.event k.at_tree.each e.among in
-          (ap (λ (o : Origin). o.round) e.origin ∙ is.round, ap (λ (o : Origin). o.worker) e.origin ∙ is.worker))
+          (ap (λ (o : Origin). o.round) e.origin ∙ is.round, subst (IsByOneOf b) (sym e.origin) is.worker))
       | inr g ↦ (g.round, g.worker)
     ]
 
-end-lean : (P : Project) (b : Beginning) (ns : List TreeNode) (at : Progress) (s : PartState) (best : ℕ) → b.worker ≡ 1 → (k : Ending P b ns at s best) →
-    IsLeanRound P 1 b.terms b.records.index (visited b s best) (line b s (ns ++ k.at_tree.more) best)
-end-lean P b ns at s best one k = record {
+end-lean : (P : Project) (workers : ℕ) (b : Beginning) (ns : List TreeNode) (at : Progress) (s : PartState) (best : ℕ) → b.first_worker ≡ 1 → b.last_worker ≡ workers → (k : Ending P b ns at s best) →
+    IsLeanRound P workers b.terms b.records.index (visited b s best) (line b s (ns ++ k.at_tree.more) best)
+end-lean P workers b ns at s best one last k = record {
   round = λ p v. (origin-facts P b ns at s best p k v).0;
-  worker = λ p v. let w = (origin-facts P b ns at s best p k v).1 in record { some = omega arith; few = omega arith };
+  worker = λ p v. let w = (origin-facts P b ns at s best p k v).1 in let from = w.from in let to = w.to in record { some = omega arith; few = omega arith };
   early = λ p F c v x f low.
       let e = find p F v x f in
       let is = each e.by.event e.by.among in
@@ -88,7 +78,8 @@ end-lean P b ns at s best one k = record {
       let turn = t.turn in
       let et = ap (λ (o : Origin). o.turn) e.by.origin in
       let ht = ap (λ (o : Origin). o.turn) h.by.origin in
-      k.at_tree.turns.own h.by.event e.by.event (Contains-from_In k.at_tree.events h.by.event h.by.among) (Contains-from_In k.at_tree.events e.by.event e.by.among) h.expansion e.expansion (omega arith)
+      let same : IsSameWorker h.by.event e.by.event = ap (λ (o : Origin). o.worker) (sym h.by.origin) ∙ (t.worker ∙ ap (λ (o : Origin). o.worker) e.by.origin) in
+      k.at_tree.turns.own h.by.event e.by.event (Contains-from_In k.at_tree.events h.by.event h.by.among) (Contains-from_In k.at_tree.events e.by.event e.by.among) same h.expansion e.expansion (omega arith)
       (subst (λ (G : List Entry). Dominates P h.by.event.front G) (sym e.front) (subst (λ (G : List Entry). Dominates P G F) (sym h.front) d));
   one = λ p q v w x y same.
       elim (visited-cases P b ns at s best p k v) [
@@ -96,8 +87,9 @@ end-lean P b ns at s best one k = record {
         | inl e ↦ elim (visited-cases P b ns at s best q k w) [
           | inr g ↦ absurd (shut-expanded q y g)
           | inl h ↦ (
-              let turns : e.event.fill.origin.turn ≡ h.event.fill.origin.turn = ap (λ (o : Origin). o.turn) (sym e.origin ∙ (same ∙ h.origin)) in
-              let events = k.at_tree.turns.one e.event h.event (Contains-from_In k.at_tree.events e.event e.among) (Contains-from_In k.at_tree.events h.event h.among) turns in
+              let origins : e.event.fill.origin ≡ h.event.fill.origin = sym e.origin ∙ (same ∙ h.origin) in
+              let events = k.at_tree.turns.one e.event h.event (Contains-from_In k.at_tree.events e.event e.among) (Contains-from_In k.at_tree.events h.event h.among) (ap (λ (o : Origin). o.worker) origins)
+              (expansion p x e) (expansion q y h) (ap (λ (o : Origin). o.turn) origins) in
               sym e.place ∙ (ap (λ (z : Event). z.fill.place) events ∙ h.place))
         ]
       ];
@@ -118,11 +110,12 @@ end-lean P b ns at s best one k = record {
               let low = (numbers-range e.expansion.first e.expansion.count p j).0 in
               let et = ap (λ (o : Origin). o.turn) e.by.origin in
               let ht = ap (λ (o : Origin). o.turn) h.origin in
+              let same : IsSameWorker h.event e.by.event = ap (λ (o : Origin). o.worker) (sym h.origin) ∙ (sym u ∙ ap (λ (o : Origin). o.worker) e.by.origin) in
               let place = h.place in
               elim (cases_lt e.by.event.fill.origin.turn h.event.fill.origin.turn) [
                 | inl less ↦ omega arith
                 | inr over ↦ absurd (
-                    let before = k.at_tree.turns.before h.event e.by.event e.expansion (Contains-from_In k.at_tree.events h.event h.among) (Contains-from_In k.at_tree.events e.by.event e.by.among) over in omega arith)
+                    let before = k.at_tree.turns.before h.event e.by.event e.expansion (Contains-from_In k.at_tree.events h.event h.among) (Contains-from_In k.at_tree.events e.by.event e.by.among) same over in omega arith)
               ])
         ];
       };
@@ -133,6 +126,11 @@ end-lean P b ns at s best one k = record {
 
     find : (p : ℕ) (F : List Entry) (v : visited b s best p) (x : expands_line (line b s (ns ++ k.at_tree.more) best p) ≡ true) (f : place_front (ns ++ k.at_tree.more) p ≡ Some F) → ExpandedEvent b s (ns ++ k.at_tree.more) k.at_tree.events p F
     find p F v x f = expanded-event P b ns at s best p F k v (line-expanded (after_rows b s) (ns ++ k.at_tree.more) (after_origins b s) p x) f
+
+    expansion : (p : ℕ) → expands_line (line b s (ns ++ k.at_tree.more) best p) ≡ true → (e : ByEvent b s k.at_tree.events p) → IsExpansion e.event
+    expansion p x e =
+        let is = line-expanded (after_rows b s) (ns ++ k.at_tree.more) (after_origins b s) p x in
+        record { first = is.first; count = is.count; is = sym e.says ∙ is.is }
 
     shut-expanded : (p : ℕ) → expands_line (line b s (ns ++ k.at_tree.more) best p) ≡ true → ByParent b s p → ⊥
     shut-expanded p x g =
@@ -263,73 +261,42 @@ end-plan P first (end ∷ ends) best (Some plan) soon all is small has =
 
 -- The whole.
 
--- what was dealt waits
-begin-part : (P : Project) (b : Beginning) (at : Progress) → IfSome b.terms.best (λ end. end ≤ 1290000) → at.pass.least_seen ≡ end_number b.terms.best → at.pass.offers ≡ [] → at.worker.expanded ≡ [] → IsPart P b at (part_by [] [] [] b.dealt)
-begin-part P b at soon start offers none = record {
-  falls = omega arith;
-  rows = tt;
-  fronts = sym (ap fronts_of none);
-  expanded = refl;
-  at_tree = λ ns st or ar. record {
-    more = [];
-    events = [];
-    fills = refl;
-    grows = record {
-      size = refl;
-      account = λ h. refl;
-      waits = λ h. omega arith;
-      rows = λ i l. absurd (omega arith);
-      each_fill = tt;
-      each_left = subst (λ (n : List TreeNode). Each (IsAtPlace n) (waiting_of b.dealt)) (sym (append-nil ns)) st.each_waiting;
-    };
-    at_nodes = tt;
-    each = tt;
-    turns = record {
-      few = λ e c. absurd (In-from_Contains [] e c);
-      one = λ e f c d. absurd (In-from_Contains [] e c);
-      own = λ e f c d. absurd (In-from_Contains [] e c);
-      before = λ e f x c d. absurd (In-from_Contains [] e c);
-    };
-    cites = λ e q c. absurd (In-from_Contains [] e c);
-    made = All-nil (IsMadeIn P []);
-    made_all = λ e c. absurd (In-from_Contains [] e c);
-    offered = subst (All (IsOffered P b [])) (sym offers) (All-nil (IsOffered P b []));
-  };
-}
-
 offers-less : (P : Project) (b : Beginning) (events : List Event) (ends : List ℕ) → All (IsOffered P b events) ends → All (λ e. e < end_number b.terms.best) ends
 offers-less P b events ends a = All-weaker (IsOffered P b events) (λ (e : ℕ). e < end_number b.terms.best) (λ e is. is.less) ends a
 
-round-at : (P : Project) (b : Beginning) (ns : List TreeNode) (at : Progress) (s : PartState) (best : ℕ) (plan : Option (List Placing)) → b.worker ≡ 1 → (k : Ending P b ns at s best) → All (λ w. StandsFor P w.node) s.left → 0 < length s.fills →
-    length s.made ≤ b.terms.quota → best ≡ least (end_number b.terms.best) at.pass.offers → HasPlan P at.pass.offers plan → IsRound P 1 b.table ns b.records b.dealt b.terms (result_of s plan best)
-round-at P b ns at s best plan one k nodes moves few is has =
+round-at : (P : Project) (workers : ℕ) (b : Beginning) (ns : List TreeNode) (at : Progress) (s : PartState) (best : ℕ) (plan : Option (List Placing)) → IsWholeCrew workers b → (k : Ending P b ns at s best) →
+    All (λ w. StandsFor P w.node) s.left → 0 < length s.fills → HasEnded P b at s best plan → IsRound P workers b.table ns b.records b.dealt b.terms (result_of s plan best)
+round-at P workers b ns at s best plan crew k nodes moves has =
     let falls = k.falls in
     let start = k.part.falls in
     let small = end-small b.terms.best k.soon in
+    let won = has.won in
+    let few = has.few in
     record {
       more = k.at_tree.more;
       grows = grows-end P b ns at s best k;
       nodes = nodes;
       moves = moves;
       used = end-used P b ns at s best k;
-      few = few;
+      few = omega arith;
       cites = end-cites P b ns at s best k;
       made_few = refl;
       made_each = end-made P b ns at s best k;
       made_all = end-made_all P b ns at s best k;
-      lean = end-lean P b ns at s best one k;
-      best = end-best P b ns at s best k is;
+      lean = end-lean P workers b ns at s best crew.first crew.last k;
+      best = end-best P b ns at s best k has.best_is;
       falls = no_later-end b.terms.best best k.soon (omega arith);
-      soon = end-soon best (offers-small P b k.at_tree.events at.pass.offers best k.soon k.at_tree.offered is);
-      plan = end-plan P b.terms.best at.pass.offers best plan k.soon (offers-less P b k.at_tree.events at.pass.offers k.at_tree.offered) is (omega arith) has;
+      soon = end-soon best (offers-small P b k.at_tree.events at.pass.offers best k.soon k.at_tree.offered has.best_is);
+      plan = end-plan P b.terms.best at.pass.offers best plan k.soon (offers-less P b k.at_tree.events at.pass.offers k.at_tree.offered) has.best_is (omega arith) has.brings;
     }
 
-pub round-is : (P : Project) (table : Table) (records : Records) (frontier : List WaitingNode) (terms : Terms) (origin : Origin) (at now : Progress) (s t : PartState) (best : ℕ) (plan : Option (List Placing)) →
-    IfSome terms.best (λ end. end ≤ 1290000) → terms.number ≡ origin.round → origin.worker ≡ 1 → KeepsPart P table records origin (record { at = at; part = s }) (record { at = now; part = t }) →
-    at.pass.least_seen ≡ end_number terms.best → at.pass.offers ≡ [] → at.worker.expanded ≡ [] → s ≡ part_by [] [] [] frontier → All (λ w. StandsFor P w.node) t.left → 0 < length t.fills + now.pass.refused → now.pass.won ≡ length t.made → now.pass.won ≤ terms.quota → (0 < now.pass.refused → now.pass.won ≡ terms.quota) → 0 < terms.quota →
-    best ≡ least (end_number terms.best) now.pass.offers → best ≤ now.pass.least_seen → HasPlan P now.pass.offers plan → IsRoundOn P 1 table records frontier terms (result_of t plan best)
-round-is P table records frontier terms origin at now s t best plan soon number one keeps start offers none begins nodes moves won few spent some is falls has ns st or ar =
-    let b = beginning table records origin.worker frontier terms in
-    let part : IsPart P b now t = keeps frontier terms number soon (subst (IsPart P b at) (sym begins) (begin-part P b at soon start offers none)) in
-    round-at P b ns now t best plan one (record { stands = st; origins = or; known = ar; part = part; at_tree = part.at_tree ns st or ar; falls = falls; soon = soon }) nodes
-    (some-fills (λ (f : Fill). one_expanded (row_saying f.fate)) t.fills (length t.made) now.pass.refused now.pass.won terms.quota part.expanded won moves spent some) (omega arith) is has
+pub round-is : RoundLaw
+round-is P workers b frontier left at s best plan crew dealt is none others ended nodes ns st or ar =
+    let c : Beginning = record b { dealt = frontier } in
+    let t : PartState = record s { left = left } in
+    let part = in_order-part P b frontier left at s dealt others is in
+    let begins = begins-on P c ns st ar in
+    round-at P workers c ns at t best plan (record { first = crew.first; last = crew.last })
+    (record { stands = st; origins = or; known = ar; part = part; at_tree = part.at_tree ns begins; none_live = none; falls = ended.seen; soon = ended.soon }) nodes
+    (some-fills (λ (f : Fill). one_expanded (row_saying f.fate)) s.fills (length s.made) at.pass.refused at.pass.won b.terms.quota part.expanded ended.won ended.moves ended.spent ended.some)
+    (record { soon = ended.soon; moves = ended.moves; won = ended.won; few = ended.few; spent = ended.spent; some = ended.some; best_is = ended.best_is; seen = ended.seen; brings = ended.brings })

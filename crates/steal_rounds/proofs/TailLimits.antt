@@ -1,13 +1,13 @@
 -- Bounds are small numbers.
-use Rattle.std.proofs.Common.{◌≡◌, ℕ, zero, suc, ◌+◌, ◌*◌, ◌<◌, ◌≤◌, ◌⊎◌, inl, inr, refl, sym, ap, subst, ◌∙◌, arith, List, [], ◌∷◌, length, cond, Bool, true, false}
-use Rattle.std.specs.Prelude.{All, sum_by, nat_le, nat_lt}
+use Rattle.std.proofs.Common.{◌≡◌, ℕ, zero, suc, ◌+◌, ◌*◌, ◌<◌, ◌≤◌, inl, inr, ap, arith, List, [], ◌∷◌, cond}
+use Rattle.std.specs.Prelude.{nat_le}
 use Rattle.std.proofs.lemmas.Bool.{cases_lt}
 use Rattle.std.proofs.lemmas.Bool.Decides.{nat_tests}
 use Rattle.rcpsp_model.specs.declared.parts.Entry.{Entry}
-use Rattle.rcpsp_model.specs.Project.{Project, jobs, job_count, numbers_from, modes_of, mode_of, duration, Before, IsJob, IsMode, IsWithinLimits, IsAcyclic, IsProject}
+use Rattle.rcpsp_model.specs.Project.{Project, jobs, job_count, numbers_from, modes_of, mode_of, duration, IsJob, IsMode, IsWithinLimits, IsAcyclic, IsProject}
 use Rattle.rcpsp_model.specs.Chain.{least_duration, IsChain}
 use Rattle.rcpsp_model.specs.Tree.{IsFront}
-use Rattle.rcpsp_model.specs.Bounds.{TailValue, of_front, of_chain, IsTailBound, IsWorkBound}
+use Rattle.rcpsp_model.specs.Bounds.{TailValue, of_front, of_chain, IsTailBound}
 use Rattle.rcpsp_model.proofs.Lists.{In, total, sum_by-total}
 use Rattle.rcpsp_model.proofs.Choices.{In-jobs}
 use Rattle.rcpsp_model.proofs.Fronts.{front-end, ready-limit, activity-within, duration-limit}

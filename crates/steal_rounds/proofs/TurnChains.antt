@@ -1,5 +1,5 @@
 -- Turns one after another.
-use Rattle.std.proofs.Common.{◌≡◌, ℕ, ◌+◌, ◌≤◌, refl, sym, ap, subst, ◌∙◌, arith, List, ◌∷◌}
+use Rattle.std.proofs.Common.{◌≡◌, ℕ, sym, ap, subst, ◌∙◌, arith, List, ◌∷◌}
 use Rattle.std.specs.Prelude.{All, Bool, true, false}
 use Rattle.std.proofs.lemmas.List.Elements.{All-head, All-tail}
 use Rattle.rcpsp_model.specs.Project.{Project}
@@ -9,7 +9,6 @@ use Rattle.search_log.specs.declared.table.Table.{Table}
 use Rattle.search_rounds.specs.declared.round.WaitingNode.{WaitingNode}
 use Rattle.search_rounds.specs.declared.round.Records.{Records}
 use Rattle.search_table.specs.declared.view.PassView.{PassView}
-use Rattle.search_table.specs.Counts.{seen_of}
 use Rattle.tree_worker.specs.Visits.{StaysOf}
 use Rattle.steal_rounds.specs.Part.{PartState}
 use Rattle.steal_rounds.specs.Turns.{Stage, KeepsPart, IsTurn}
@@ -20,9 +19,9 @@ keeps-then P table records origin a b c f g dealt terms number soon part = g dea
 
 -- the next node is taken, and then a turn is made
 pub keeps-taken : (P : Project) (table : Table) (records : Records) (origin other : Origin) (next : WaitingNode) (a b c : Stage) (left : List WaitingNode) → origin.round ≡ other.round → origin.worker ≡ other.worker → b.part.left ≡ next ∷ left →
-    KeepsPart P table records other a b → KeepsPart P table records origin (record { at = b.at; part = part_by b.part.grown b.part.fills b.part.made (next ∷ left) }) c → KeepsPart P table records other a c
+    KeepsPart P table records other a b → KeepsPart P table records origin (record { at = b.at; part = part_by b.part.grown b.part.fills b.part.live b.part.made (next ∷ left) }) c → KeepsPart P table records other a c
 keeps-taken P table records origin other next a b c left round worker taken f g =
-    let same : b.part ≡ part_by b.part.grown b.part.fills b.part.made (next ∷ left) = ap (part_by b.part.grown b.part.fills b.part.made) taken in
+    let same : b.part ≡ part_by b.part.grown b.part.fills b.part.live b.part.made (next ∷ left) = ap (part_by b.part.grown b.part.fills b.part.live b.part.made) taken in
     let now : KeepsPart P table records origin b c = subst (λ (s : PartState). KeepsPart P table records origin (record { at = b.at; part = s }) c) (sym same) g in
     keeps-then P table records other a b c f
     (subst (λ (w : ℕ). KeepsPart P table records (record { round = other.round; worker = w; turn = 0 }) b c) worker (subst (λ (r : ℕ). KeepsPart P table records (record { round = r; worker = origin.worker; turn = 0 }) b c) round now))

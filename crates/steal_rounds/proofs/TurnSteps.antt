@@ -1,5 +1,5 @@
 -- What a turn makes of a part.
-use Rattle.std.proofs.Common.{◌≡◌, ℕ, zero, suc, ◌+◌, ◌*◌, ◌<◌, ◌≤◌, ◌⊎◌, inl, inr, refl, sym, ap, subst, ◌∙◌, arith, List, [], ◌∷◌, ◌++◌, length, length-append, append_assoc, map, All, Option, Some, None}
+use Rattle.std.proofs.Common.{◌≡◌, ℕ, ◌+◌, ◌<◌, ◌≤◌, ◌⊎◌, inl, inr, refl, sym, ap, subst, ◌∙◌, arith, List, [], ◌∷◌, ◌++◌, length, length-append, append_assoc, map, All, Option, Some}
 use Rattle.std.specs.Prelude.{IfSome, Contains}
 use Rattle.std.specs.List.{AllZip}
 use Rattle.std.proofs.lemmas.List.{length-map, map-append}
@@ -12,11 +12,9 @@ use Rattle.rcpsp_model.specs.Dominance.{Dominates}
 use Rattle.rcpsp_model.proofs.Lists.{In, In-All, In-from_Contains, Contains-from_In}
 use Rattle.rcpsp_model.proofs.Choices.{In-map}
 use Rattle.rcpsp_model.proofs.Fronts.{front-end}
-use Rattle.log_truth.specs.Log.{child_branches}
 use Rattle.precedence_tree.specs.declared.base.Base.{Base}
-use Rattle.precedence_tree.specs.Base.{IsBaseOf}
 use Rattle.precedence_tree.specs.Node.{NodeState, StandsFor}
-use Rattle.precedence_tree.specs.Children.{child_front, child_fronts, StandsWherePlaced}
+use Rattle.precedence_tree.specs.Children.{child_fronts}
 use Rattle.cutset_store.specs.Index.{fronts_of}
 use Rattle.search_log.specs.declared.row.RowFate.{RowFate}
 use Rattle.search_log.specs.declared.row.RowFate.TheVariants as fate
@@ -25,9 +23,9 @@ use Rattle.search_log.specs.declared.row.Origin.{Origin}
 use Rattle.search_log.specs.declared.row.Fill.{Fill}
 use Rattle.search_log.specs.declared.table.Table.{Table}
 use Rattle.search_log.specs.Weights.{total, over, Each}
-use Rattle.search_log.specs.Fates.{RowSaying, row_expanded, row_saying}
-use Rattle.search_log.specs.Table.{says_row, row_at, children_of}
-use Rattle.search_log.specs.Stands.{TreeNode, place_front, HasChildren, searching, Suits, RowSuits, FillSuits, IsAtPlace, if_open, Grows, Stands, one_expanded}
+use Rattle.search_log.specs.Fates.{row_expanded, row_saying}
+use Rattle.search_log.specs.Table.{says_row, row_at}
+use Rattle.search_log.specs.Stands.{TreeNode, place_front, HasChildren, searching, Suits, RowSuits, FillSuits, IsAtPlace, if_open, Grows, one_expanded}
 use Rattle.search_log.specs.Lean.{none_yet, end_number}
 use Rattle.search_log.proofs.Sums.{total-append, Each-append, Each-In, numbers-total}
 use Rattle.search_log.proofs.GrownTables.{child_places_law}
@@ -35,32 +33,34 @@ use Rattle.search_rounds.specs.declared.round.NewRow.{NewRow}
 use Rattle.search_rounds.specs.declared.round.WaitingNode.{WaitingNode}
 use Rattle.search_rounds.specs.declared.round.PlacedRecord.{PlacedRecord}
 use Rattle.search_rounds.specs.declared.round.Records.{Records}
-use Rattle.search_rounds.specs.declared.round.Terms.{Terms}
-use Rattle.search_rounds.specs.Round.{waits_at, waiting_of, AreRecords}
+use Rattle.search_rounds.specs.Round.{waiting_of}
 use Rattle.search_rounds.proofs.FilledSums.{Contains-left, Contains-right}
 use Rattle.shared_rows.specs.Rows.{RowsState}
+use Rattle.tree_worker.specs.declared.answer.Cite.TheVariants.{Earlier, Own, Live}
 use Rattle.tree_worker.specs.declared.answer.Close.{Close}
+use Rattle.tree_worker.specs.declared.answer.Close.TheVariants.{Leaf, TailBound, WorkBound, Cutset}
 use Rattle.tree_worker.specs.Worker.{Progress}
 use Rattle.tree_worker.specs.Reasons.{IsOpen}
 use Rattle.tree_worker.specs.Visits.{Closes}
 use Rattle.steal_rounds.specs.Ends.{end_in}
 use Rattle.steal_rounds.specs.Children.{row_of_child, new_row, placed_from}
-use Rattle.steal_rounds.specs.Fates.{fate_in, places_of}
-use Rattle.steal_rounds.specs.Part.{Beginning, PartState, Event, fills_of, says_event, IsExpansion, IsAtNode, IsEventOf, IsMadeIn, HasRecord, IsOffered, IsNewRow, IsPartAt, IsPart}
+use Rattle.steal_rounds.specs.Fates.{IsLive, live_numbers, fate_in, places_of}
+use Rattle.steal_rounds.specs.Part.{Beginning, IsByOneOf, PartState, Event, says_event, IsExpansion, IsAtNode, IsCitedLive, IsMadeIn, HasRecord, IsOffered, IsNewRow, IsPartAt, IsPart}
 use Rattle.steal_rounds.specs.Turns.{ExpandsAs, beginning, KeepsPart}
 use Rattle.steal_rounds.proofs.EndNumbers.{end-small, later-end}
-use Rattle.steal_rounds.proofs.ChildRows.{kid_nodes, IsKid, AreKids-from, kid-branches, kid-length, choice-length, kid-rows, waiting-append, waiting-weight, kid-waiting, kid-childless, kid-at_places, rows-of_new, kid-new}
-use Rattle.steal_rounds.proofs.EventSteps.{pushed, old-event, new-event, made-more, offered-more, later-event, fills-length}
+use Rattle.steal_rounds.proofs.ChildRows.{kid_nodes, IsKid, AreKids-from, kid-branches, kid-length, kid-rows, waiting-append, waiting-weight, kid-waiting, kid-childless, kid-at_places, rows-of_new, kid-new}
+use Rattle.steal_rounds.proofs.EventSteps.{pushed, new-event, made-more, live-more, offered-more, later-event, fills-length}
 use Rattle.steal_rounds.proofs.PartSteps.{node-inside, front-more, at_place-more, closed-grows, expanded-grows, grows-later, next_at}
-use Rattle.steal_rounds.proofs.ClosedNodes.{never-expanded, IsClosedAs, closed-as, OffersIts, closed-offers}
+use Rattle.steal_rounds.proofs.ClosedNodes.{never-expanded, closed-as, OffersIts, closed-offers, closed-live}
 
-abbrev pub part_by : List NewRow → List Fill → List PlacedRecord → List WaitingNode → PartState
-part_by grown fills made left = record { grown = grown; fills = fills; made = made; left = left }
+abbrev pub part_by : List NewRow → List Fill → List ℕ → List PlacedRecord → List WaitingNode → PartState
+part_by grown fills live made left = record { grown = grown; fills = fills; live = live; made = made; left = left }
 
-pub same_part : (s t : PartState) → s.grown ≡ t.grown → s.fills ≡ t.fills → s.made ≡ t.made → s.left ≡ t.left → s ≡ t
-same_part s t a b c d =
-    ap (λ (x : List NewRow). part_by x s.fills s.made s.left) a ∙ (ap (λ (x : List Fill). part_by t.grown x s.made s.left) b
-    ∙ (ap (λ (x : List PlacedRecord). part_by t.grown t.fills x s.left) c ∙ ap (part_by t.grown t.fills t.made) d))
+pub same_part : (s t : PartState) → s.grown ≡ t.grown → s.fills ≡ t.fills → s.live ≡ t.live → s.made ≡ t.made → s.left ≡ t.left → s ≡ t
+same_part s t a b l c d =
+    ap (λ (x : List NewRow). part_by x s.fills s.live s.made s.left) a ∙ (ap (λ (x : List Fill). part_by t.grown x s.live s.made s.left) b
+    ∙ (ap (λ (x : List ℕ). part_by t.grown t.fills x s.made s.left) l
+    ∙ (ap (λ (x : List PlacedRecord). part_by t.grown t.fills t.live x s.left) c ∙ ap (part_by t.grown t.fills t.live t.made) d)))
 
 abbrev pub fill_by : ℕ → RowFate → Origin → Fill
 fill_by place fate origin = record { place = place; fate = fate; origin = origin }
@@ -70,8 +70,20 @@ events-many P b ns at old = ap length old.fills ∙ fills-length old.events
 
 -- A node is closed.
 
-abbrev closed_part : PartState → WaitingNode → Fill → PartState
-closed_part s w f = part_by s.grown (s.fills ++ f ∷ []) s.made s.left
+abbrev closed_part : PartState → WaitingNode → Fill → Close → PartState
+closed_part s w f close = part_by s.grown (s.fills ++ f ∷ []) (s.live ++ live_numbers (length s.fills) close) s.made s.left
+
+-- the part before it, where the node waits
+abbrev waits_part : PartState → WaitingNode → PartState
+waits_part s w = part_by s.grown s.fills s.live s.made (w ∷ s.left)
+
+live-now : (s : PartState) (close : Close) (n : ℕ) → length s.fills ≡ n → IsLive close → Contains (s.live ++ live_numbers (length s.fills) close) n
+live-now s Leaf n same l = absurd l
+live-now s TailBound n same l = absurd l
+live-now s (WorkBound k) n same l = absurd l
+live-now s (Cutset (Earlier i)) n same l = absurd l
+live-now s (Cutset (Own i)) n same l = absurd l
+live-now s (Cutset (Live worker place)) n same l = Contains-right s.live (length s.fills ∷ []) n (Contains-from_In (length s.fills ∷ []) n (inl same))
 
 offered-now : (P : Project) (b : Beginning) (events : List Event) (x : Event) (before after : List ℕ) → All (IsOffered P b events) before →
     (after ≡ before) ⊎ OffersIts P (end_number b.terms.best) x.front x.fill.fate before after → All (IsOffered P b (events ++ x ∷ [])) after
@@ -80,14 +92,14 @@ offered-now P b events x before after a (inr its) =
     subst (All (IsOffered P b (events ++ x ∷ []))) (sym its.offers)
     (All-cons (IsOffered P b (events ++ x ∷ [])) _ before (record { event = x; among = new-event events x; leaf = its.leaf; is = refl; less = its.less; soon = its.soon }) (offered-more P b events x before a))
 
-closed-at : (P : Project) (rows : RowsState) (best : ℕ) (b : Beginning) (origin : Origin) (w : WaitingNode) (at now : Progress) (s : PartState) (close : Close) → IsProject P → StandsFor P w.node → rows.workers ≡ 1 →
-    now.pass.number ≡ 1 → length b.records.places ≡ length b.records.index → best ≤ at.pass.least_seen → now.pass.least_seen ≤ best → origin.turn ≡ length s.fills + 1 → origin.round ≡ b.terms.number → origin.worker ≡ b.worker →
+closed-at : (P : Project) (rows : RowsState) (best : ℕ) (b : Beginning) (origin : Origin) (w : WaitingNode) (at now : Progress) (s : PartState) (close : Close) → IsProject P → StandsFor P w.node →
+    length b.records.places ≡ length b.records.index → best ≤ at.pass.least_seen → now.pass.least_seen ≤ best → origin.turn ≡ length s.fills + 1 → origin.round ≡ b.terms.number → IsByOneOf b origin →
     Closes P (fronts_of b.records.index) rows best w.node.front at now close → at.pass.least_seen ≤ end_number b.terms.best → IfSome b.terms.best (λ end. end ≤ 1290000) →
-    map (λ m. m.known.front) s.made ≡ fronts_of at.worker.expanded → (ns : List TreeNode) → IsPartAt P b ns at (part_by s.grown s.fills s.made (w ∷ s.left)) →
-    IsPartAt P b ns now (closed_part s w (fill_by w.place (fate_in b.records.places (places_of s.made) close) origin))
-closed-at P rows best b origin w at now s close p stands one me places low falls turn round worker c start soon fronts ns old =
+    map (λ m. m.known.front) s.made ≡ fronts_of at.worker.expanded → (ns : List TreeNode) → IsPartAt P b ns at (waits_part s w) →
+    IsPartAt P b ns now (closed_part s w (fill_by w.place (fate_in b.records.places (places_of s.made) close) origin) close)
+closed-at P rows best b origin w at now s close p stands places low falls turn round worker c start soon fronts ns old =
     let F = w.node.front in
-    let facts = closed-as P b old.events s.made rows best w.node at now close p stands one me places old.made fronts falls c in
+    let facts = closed-as P b old.events s.made rows best w.node at now close p stands places old.made fronts falls c in
     let f : Fill = fill_by w.place (fate_in b.records.places (places_of s.made) close) origin in
     let x : Event = record { fill = f; front = F } in
     let small = end-small b.terms.best soon in
@@ -99,24 +111,27 @@ closed-at P rows best b origin w at now s close p stands one me places low falls
       says = subst (λ (o : Option (List Entry)). Suits P (searching (end_in now.pass.least_seen)) (ns ++ old.more) w.place o (row_saying f.fate)) (sym front) (facts.suits (ns ++ old.more) w.place);
     } in
     let many = events-many P b ns at old in
-    next_at P b ns at now (part_by s.grown s.fills s.made (w ∷ s.left)) (closed_part s w f) x old old.more (λ q G e. e) refl
+    next_at P b ns at now (waits_part s w) (closed_part s w f close) x old old.more (λ q G e. e) refl
     (closed-grows P (end_in at.pass.least_seen) (end_in now.pass.least_seen) b.table.rows (map (λ n. n.row) s.grown) ns old.more (waiting_of b.dealt) w s.left s.fills f later old.grows refl facts.childless suits)
     front (omega arith)
     (record { round = round; worker = worker; leaf = facts.leaf; early = λ y. absurd (facts.plain y.first y.count y.is); new = λ y. absurd (facts.plain y.first y.count y.is) })
-    (omega arith) (λ e i u v. absurd (facts.plain v.first v.count v.is)) (λ e y i. absurd (facts.plain y.first y.count y.is)) facts.cites (made-more P old.events x s.made old.made)
+    (omega arith) (λ e i u v. absurd (facts.plain v.first v.count v.is)) (λ e y i. absurd (facts.plain y.first y.count y.is))
+    (λ q says. elim (facts.cites q says) [ inl k ↦ inl k | inr l ↦ inr (live-now s close (length old.events) many l) ]) (λ i k. Contains-left s.live (live_numbers (length s.fills) close) i k)
+    (subst (λ (n : ℕ). AllZip (IsCitedLive P (old.events ++ x ∷ [])) (s.live ++ live_numbers n close) now.worker.live) (sym many)
+    (closed-live P (fronts_of b.records.index) rows best at now close b.records.places (places_of s.made) old.events x s.live refl c old.live)) (made-more P old.events x s.made old.made)
     (λ e i y. elim (pushed old.events x e i) [
       | inl k ↦ old.made_all e k y
       | inr same ↦ absurd (facts.plain y.first y.count (ap says_event same ∙ y.is))
     ])
     (offered-now P b old.events x at.pass.offers now.pass.offers old.offered
-    (closed-offers P (fronts_of b.records.index) b.records.places (places_of s.made) rows best (end_number b.terms.best) F at now close one me (omega arith) (front-end P F p.limits stands.front) c))
+    (closed-offers P (fronts_of b.records.index) b.records.places (places_of s.made) rows best (end_number b.terms.best) F at now close (omega arith) (front-end P F p.limits stands.front) c))
 
-pub closed-keeps : (P : Project) (rows : RowsState) (best : ℕ) (table : Table) (records : Records) (origin : Origin) (w : WaitingNode) (at now : Progress) (s t : PartState) (close : Close) → IsProject P → StandsFor P w.node → rows.workers ≡ 1 →
-    now.pass.number ≡ 1 → length records.places ≡ length records.index → best ≤ at.pass.least_seen → now.pass.least_seen ≤ best → origin.turn ≡ length s.fills + 1 →
+pub closed-keeps : (P : Project) (rows : RowsState) (best : ℕ) (table : Table) (records : Records) (origin : Origin) (w : WaitingNode) (at now : Progress) (s t : PartState) (close : Close) → IsProject P → StandsFor P w.node →
+    length records.places ≡ length records.index → best ≤ at.pass.least_seen → now.pass.least_seen ≤ best → origin.turn ≡ length s.fills + 1 →
     Closes P (fronts_of records.index) rows best w.node.front at now close → now.worker.expanded ≡ at.worker.expanded →
-    t ≡ closed_part s w (fill_by w.place (fate_in records.places (places_of s.made) close) origin) →
-    KeepsPart P table records origin (record { at = at; part = part_by s.grown s.fills s.made (w ∷ s.left) }) (record { at = now; part = t })
-closed-keeps P rows best table records origin w at now s t close p stands one me places low falls turn c same is dealt terms number soon old =
+    t ≡ closed_part s w (fill_by w.place (fate_in records.places (places_of s.made) close) origin) close →
+    KeepsPart P table records origin (record { at = at; part = waits_part s w }) (record { at = now; part = t })
+closed-keeps P rows best table records origin w at now s t close p stands places low falls turn c same is dealt terms number soon old =
     let b = beginning table records origin.worker dealt terms in
     let f : Fill = fill_by w.place (fate_in records.places (places_of s.made) close) origin in
     let start = old.falls in
@@ -129,15 +144,15 @@ closed-keeps P rows best table records origin w at now s t close p stands one me
           let e = old.expanded in
           let z = never-expanded records.places (places_of s.made) close in
           omega arith;
-      at_tree = λ ns st or ar. closed-at P rows best b origin w at now s close p stands one me places low falls turn (sym number) refl c start soon old.fronts ns (old.at_tree ns st or ar);
+      at_tree = λ ns st. closed-at P rows best b origin w at now s close p stands places low falls turn (sym number) (record { from = omega arith; to = omega arith }) c start soon old.fronts ns (old.at_tree ns st);
     })
 
 -- A node comes back.
 
 pub back-keeps : (P : Project) (table : Table) (records : Records) (origin : Origin) (w : WaitingNode) (at now : Progress) (s t : PartState) → now.pass.least_seen ≤ at.pass.least_seen → now.pass.offers ≡ at.pass.offers →
-    now.worker.expanded ≡ at.worker.expanded → t ≡ part_by s.grown s.fills s.made (w ∷ s.left) →
-    KeepsPart P table records origin (record { at = at; part = part_by s.grown s.fills s.made (w ∷ s.left) }) (record { at = now; part = t })
-back-keeps P table records origin w at now s t falls offers same is dealt terms number soon old =
+    now.worker.expanded ≡ at.worker.expanded → now.worker.live ≡ at.worker.live → t ≡ waits_part s w →
+    KeepsPart P table records origin (record { at = at; part = waits_part s w }) (record { at = now; part = t })
+back-keeps P table records origin w at now s t falls offers same live is dealt terms number soon old =
     let b = beginning table records origin.worker dealt terms in
     let start = old.falls in
     let small = end-small terms.best soon in
@@ -146,11 +161,11 @@ back-keeps P table records origin w at now s t falls offers same is dealt terms 
       rows = old.rows;
       fronts = old.fronts ∙ sym (ap fronts_of same);
       expanded = old.expanded;
-      at_tree = λ ns st or ar. back ns (old.at_tree ns st or ar) (omega arith);
+      at_tree = λ ns st. back ns (old.at_tree ns st) (omega arith);
     })
   where
-    back : (ns : List TreeNode) → IsPartAt P (beginning table records origin.worker dealt terms) ns at (part_by s.grown s.fills s.made (w ∷ s.left)) → at.pass.least_seen ≤ none_yet →
-        IsPartAt P (beginning table records origin.worker dealt terms) ns now (part_by s.grown s.fills s.made (w ∷ s.left))
+    back : (ns : List TreeNode) → IsPartAt P (beginning table records origin.worker dealt terms) ns at (waits_part s w) → at.pass.least_seen ≤ none_yet →
+        IsPartAt P (beginning table records origin.worker dealt terms) ns now (waits_part s w)
     back ns o small = record {
       more = o.more;
       events = o.events;
@@ -160,6 +175,7 @@ back-keeps P table records origin w at now s t falls offers same is dealt terms 
       each = later-event P (beginning table records origin.worker dealt terms) at.pass.least_seen now.pass.least_seen o.events falls o.each;
       turns = o.turns;
       cites = o.cites;
+      live = subst (AllZip (IsCitedLive P o.events) s.live) (sym live) o.live;
       made = o.made;
       made_all = o.made_all;
       offered = subst (All (IsOffered P (beginning table records origin.worker dealt terms) o.events)) (sym offers) o.offered;
@@ -197,6 +213,7 @@ pub record Expanding (P : Project) (earlier : List Base) (best : ℕ) (node : No
   pub front : base.front ≡ node.front
   pub kept : now.worker.expanded ≡ at.worker.expanded ++ base ∷ []
   pub offers : now.pass.offers ≡ at.pass.offers
+  pub live : now.worker.live ≡ at.worker.live
 
 abbrev expansion_fill : WaitingNode → List (Child NodeState) → ℕ → Origin → Fill
 expansion_fill w kids first origin = fill_by w.place (fate.Expanded (length kids) first) origin
@@ -220,7 +237,7 @@ expansion-suits P least ns w kids first origin inner z base front =
 
 expansion-grows : (P : Project) (b : Beginning) (origin : Origin) (w : WaitingNode) (at now : Progress) (s : PartState) (kids : List (Child NodeState)) (first : ℕ) → (IsLeaf P w.node.front → ⊥) →
     AllZip (IsKid P w.node.front) (choices P w.node.front) kids → first ≡ length b.table.rows + length s.grown → at.pass.least_seen ≤ none_yet → now.pass.least_seen ≤ at.pass.least_seen → (ns : List TreeNode) → length ns ≡ length b.table.rows →
-    (old : IsPartAt P b ns at (part_by s.grown s.fills s.made (w ∷ s.left))) →
+    (old : IsPartAt P b ns at (waits_part s w)) →
     Grows P (searching (end_in now.pass.least_seen)) b.table.rows ns (waiting_of b.dealt) (map (λ n. n.row) (s.grown ++ map (new_row origin) kids)) (old.more ++ kid_nodes w.node.front (choices P w.node.front) kids)
     (s.fills ++ expansion_fill w kids first origin ∷ []) (waiting_of (placed_from first kids ++ s.left))
 expansion-grows P b origin w at now s kids first inner z base small falls ns size old =
@@ -261,10 +278,10 @@ expanded_first : (a b c d : ℕ) → row_expanded a b ≡ row_expanded c d → a
 expanded_first a b c d e = cc
 
 expanded-at : (P : Project) (best : ℕ) (b : Beginning) (origin : Origin) (w : WaitingNode) (at now : Progress) (s t : PartState) (kids : List (Child NodeState)) (first : ℕ) → best ≤ at.pass.least_seen → now.pass.least_seen ≤ best →
-    origin.turn ≡ length s.fills + 1 → origin.round ≡ b.terms.number → origin.worker ≡ b.worker → first ≡ length b.table.rows + length s.grown → Expanding P b.records.index best w.node at now kids →
+    origin.turn ≡ length s.fills + 1 → origin.round ≡ b.terms.number → IsByOneOf b origin → first ≡ length b.table.rows + length s.grown → Expanding P b.records.index best w.node at now kids →
     (x : ExpandsAs P w.place w.node kids first origin s t) → at.pass.least_seen ≤ end_number b.terms.best → IfSome b.terms.best (λ end. end ≤ 1290000) →
-    map (λ m. m.known.front) s.made ≡ fronts_of at.worker.expanded → (ns : List TreeNode) → length ns ≡ length b.table.rows → IsPartAt P b ns at (part_by s.grown s.fills s.made (w ∷ s.left)) →
-    IsPartAt P b ns now (part_by (s.grown ++ map (new_row origin) kids) (s.fills ++ expansion_fill w kids first origin ∷ []) (s.made ++ record { place = w.place; known = x.base } ∷ []) (placed_from first kids ++ s.left))
+    map (λ m. m.known.front) s.made ≡ fronts_of at.worker.expanded → (ns : List TreeNode) → length ns ≡ length b.table.rows → IsPartAt P b ns at (waits_part s w) →
+    IsPartAt P b ns now (part_by (s.grown ++ map (new_row origin) kids) (s.fills ++ expansion_fill w kids first origin ∷ []) s.live (s.made ++ record { place = w.place; known = x.base } ∷ []) (placed_from first kids ++ s.left))
 expanded-at P best b origin w at now s t kids first low falls turn round worker base e x start soon fronts ns size old =
     let F = w.node.front in
     let z = AreKids-from P F (choices P F) kids e.are in
@@ -282,7 +299,7 @@ expanded-at P best b origin w at now s t kids first low falls turn round worker 
     let ln = length-append ns old.more in
     let sm = old.grows.size in
     let bound : first ≡ length (ns ++ old.more) = omega arith in
-    next_at P b ns at now (part_by s.grown s.fills s.made (w ∷ s.left)) _ v old (old.more ++ most) stable refl
+    next_at P b ns at now (waits_part s w) _ v old (old.more ++ most) stable refl
     (expansion-grows P b origin w at now s kids first e.inner z base (omega arith) (omega arith) ns size old)
     (stable w.place F front) (omega arith)
     (record {
@@ -301,7 +318,7 @@ expanded-at P best b origin w at now s t kids first low falls turn round worker 
       | inr here ↦ subst (λ (y : Event). y.fill.place < length (ns ++ old.more)) here (node-inside (ns ++ old.more) w.place F front)
     ] in
     omega arith)
-    (λ q says. absurd cc)
+    (λ q says. absurd cc) (λ i k. k) (subst (AllZip (IsCitedLive P (old.events ++ v ∷ [])) s.live) (sym e.live) (live-more P old.events v s.live at.worker.live old.live))
     (All-push (IsMadeIn P (old.events ++ v ∷ [])) s.made m (made-more P old.events v s.made old.made) (record { event = v; among = new-event old.events v; is = record { expansion = expansion; place = refl; front = x.front; known = x.known } }))
     (λ g i u. elim (pushed old.events v g i) [
       | inl k ↦ has-more s.made m g (old.made_all g k u)
@@ -311,16 +328,16 @@ expanded-at P best b origin w at now s t kids first low falls turn round worker 
 
 pub expanded-keeps : (P : Project) (best : ℕ) (table : Table) (records : Records) (origin : Origin) (w : WaitingNode) (at now : Progress) (s t : PartState) (kids : List (Child NodeState)) (first : ℕ) → best ≤ at.pass.least_seen →
     now.pass.least_seen ≤ best → origin.turn ≡ length s.fills + 1 → first ≡ length table.rows + length s.grown → Expanding P records.index best w.node at now kids → ExpandsAs P w.place w.node kids first origin s t →
-    KeepsPart P table records origin (record { at = at; part = part_by s.grown s.fills s.made (w ∷ s.left) }) (record { at = now; part = t })
+    KeepsPart P table records origin (record { at = at; part = waits_part s w }) (record { at = now; part = t })
 expanded-keeps P best table records origin w at now s t kids first low falls turn base e x dealt terms number soon old =
     let b = beginning table records origin.worker dealt terms in
     let m : PlacedRecord = record { place = w.place; known = x.base } in
     let f = expansion_fill w kids first origin in
     let start = old.falls in
-    let u : PartState = part_by (s.grown ++ map (new_row origin) kids) (s.fills ++ f ∷ []) (s.made ++ m ∷ []) (placed_from first kids ++ s.left) in
-    subst (IsPart P b now) (sym (same_part t u x.grown x.fills x.made x.left)) (record {
+    let u : PartState = part_by (s.grown ++ map (new_row origin) kids) (s.fills ++ f ∷ []) s.live (s.made ++ m ∷ []) (placed_from first kids ++ s.left) in
+    subst (IsPart P b now) (sym (same_part t u x.grown x.fills x.live x.made x.left)) (record {
       falls = omega arith;
-      rows = Each-append (IsNewRow b) s.grown (map (new_row origin) kids) old.rows (kid-new b origin kids (sym number) refl);
+      rows = Each-append (IsNewRow b) s.grown (map (new_row origin) kids) old.rows (kid-new b origin kids (sym number) (record { from = omega arith; to = omega arith }));
       fronts =
           map-append (λ (y : PlacedRecord). y.known.front) s.made (m ∷ [])
           ∙ (ap (λ (fs : List (List Entry)). fs ++ x.base.front ∷ []) old.fronts
@@ -331,7 +348,7 @@ expanded-keeps P best table records origin w at now s t kids first low falls tur
           let n = old.expanded in
           let l = length-append s.made (m ∷ []) in
           omega arith;
-      at_tree = λ ns st or ar.
+      at_tree = λ ns st.
           let size = st.size in
-          expanded-at P best b origin w at now s t kids first low falls turn (sym number) refl base e x start soon old.fronts ns size (old.at_tree ns st or ar);
+          expanded-at P best b origin w at now s t kids first low falls turn (sym number) (record { from = omega arith; to = omega arith }) base e x start soon old.fronts ns size (old.at_tree ns st);
     })

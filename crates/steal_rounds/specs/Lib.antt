@@ -3,4 +3,10 @@ pub mod Children
 pub mod Fates
 pub mod Part
 pub mod Turns
+pub mod Joined
+pub mod Dealt
+pub mod Members
+pub mod Whole
+pub mod Cited
 pub mod Ended
+pub mod Settled

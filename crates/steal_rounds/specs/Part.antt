@@ -1,6 +1,6 @@
--- A worker's part in a round, as far as it has come, stated at the table on which the worker began.
-use Rattle.std.specs.Prelude.{◌≡◌, ℕ, ◌+◌, ◌*◌, ◌<◌, ◌≤◌, Option, Some, List, [], ◌∷◌, ◌++◌, length, map, All, Contains, slice_index, slice_index_or}
-use Rattle.rcpsp_model.specs.declared.parts.Child.{Child}
+-- The part of a worker in a round, or of several together, as far as it has come, stated at the table on which the round began.
+use Rattle.std.specs.Prelude.{◌≡◌, ℕ, ◌<◌, ◌≤◌, ◌⊎◌, Some, List, [], ◌++◌, length, map, All, Contains, slice_get, slice_index, slice_index_or}
+use Rattle.std.specs.List.{AllZip}
 use Rattle.rcpsp_model.specs.declared.parts.Entry.{Entry}
 use Rattle.rcpsp_model.specs.Project.{Project}
 use Rattle.rcpsp_model.specs.Schedule.{end_of}
@@ -9,46 +9,58 @@ use Rattle.rcpsp_model.specs.Dominance.{Dominates}
 use Rattle.log_truth.specs.Fates.{late_leaf}
 use Rattle.precedence_tree.specs.declared.base.Base.{Base}
 use Rattle.precedence_tree.specs.Base.{IsBaseOf}
-use Rattle.precedence_tree.specs.Node.{NodeState, StandsFor}
 use Rattle.cutset_store.specs.Index.{fronts_of}
-use Rattle.search_log.specs.declared.row.RowFate.TheVariants as fate
 use Rattle.search_log.specs.declared.row.Origin.{Origin}
 use Rattle.search_log.specs.declared.row.Fill.{Fill}
 use Rattle.search_log.specs.declared.table.Table.{Table}
 use Rattle.search_log.specs.Weights.{total, Each}
 use Rattle.search_log.specs.Fates.{RowSaying, row_open, row_expanded, row_late, row_cites, row_shut, row_saying}
 use Rattle.search_log.specs.Table.{says_row}
-use Rattle.search_log.specs.Stands.{TreeNode, place_front, searching, Grows, Stands, one_expanded}
+use Rattle.search_log.specs.Stands.{TreeNode, place_front, searching, IsAtPlace, Grows, one_expanded}
 use Rattle.search_log.specs.Lean.{end_number}
 use Rattle.search_rounds.specs.declared.round.NewRow.{NewRow}
 use Rattle.search_rounds.specs.declared.round.WaitingNode.{WaitingNode}
 use Rattle.search_rounds.specs.declared.round.PlacedRecord.{PlacedRecord}
 use Rattle.search_rounds.specs.declared.round.Records.{Records}
 use Rattle.search_rounds.specs.declared.round.Terms.{Terms}
-use Rattle.search_rounds.specs.Round.{waiting_of, AreRecords}
+use Rattle.search_rounds.specs.Round.{waiting_of}
+use Rattle.tree_worker.specs.declared.live.LiveNote.{LiveNote}
 use Rattle.tree_worker.specs.Worker.{Progress}
 use Rattle.steal_rounds.specs.declared.part.Part.{Part}
 use Rattle.steal_rounds.specs.Ends.{end_in}
-use Rattle.steal_rounds.specs.Children.{new_row, placed_from}
 
--- with what a worker begins: the table and the records of earlier rounds, the nodes that it is dealt, the terms of the round,
--- and its number
+-- with what a part begins: the table and the records of earlier rounds, the nodes that are dealt, the terms of the round, and
+-- the numbers of its workers, from the first to the last
 pub record Beginning : Type 0 where
   pub table : Table
   pub records : Records
   pub dealt : List WaitingNode
   pub terms : Terms
-  pub worker : ℕ
+  pub first_worker : ℕ
+  pub last_worker : ℕ
 
--- the lists of a part: new rows, fills, records of what was expanded, and what waits
+-- the table stands for these nodes, what is dealt waits at its places, and the records of earlier rounds have rows in it
+pub record BeginsOn (b : Beginning) (ns : List TreeNode) : Type 0 where
+  pub size : length ns ≡ length b.table.rows
+  pub dealt : Each (IsAtPlace ns) (waiting_of b.dealt)
+  pub records : Each (λ q. q < length b.table.rows) b.records.places
+
+-- visited by one of its workers
+pub record IsByOneOf (b : Beginning) (origin : Origin) : Type 0 where
+  pub from : b.first_worker ≤ origin.worker
+  pub to : origin.worker ≤ b.last_worker
+
+-- the lists of a part: new rows, fills, the numbers, from 0, of those fills of which a live record is the cause, records of
+-- what was expanded, and what waits
 pub record PartState : Type 0 where
   pub grown : List NewRow
   pub fills : List Fill
+  pub live : List ℕ
   pub made : List PlacedRecord
   pub left : List WaitingNode
 
 abbrev pub part_state : Part → PartState
-part_state p = record { grown = p.grown.items; fills = p.fills.items; made = p.made.items; left = p.source }
+part_state p = record { grown = p.grown.items; fills = p.fills.items; live = p.live.items; made = p.made.items; left = p.source }
 
 -- Visits that filled a row.
 
@@ -72,27 +84,40 @@ pub record IsExpansion (e : Event) : Type 0 where
 abbrev pub IsAtNode : List TreeNode → Event → Type 0
 IsAtNode ns e = place_front ns e.fill.place ≡ Some e.front
 
--- It is one of the worker's visits in the round, and a leaf ends no earlier than the least best seen. What is expanded has
--- each bound below the best at the start, and no record of earlier rounds dominates it
+-- It is one of the visits in the round, and a leaf ends no earlier than the least best seen. What is expanded has each bound
+-- below the best at the start, and no record of earlier rounds dominates it
 pub record IsEventOf (P : Project) (b : Beginning) (best : ℕ) (e : Event) : Type 0 where
   pub round : e.fill.origin.round ≡ b.terms.number
-  pub worker : e.fill.origin.worker ≡ b.worker
+  pub worker : IsByOneOf b e.fill.origin
   pub leaf : says_event e ≡ row_late late_leaf → best ≤ end_of P e.front
   pub early : IsExpansion e → (n : ℕ) → LowerValue P e.front n → n < end_number b.terms.best
   pub new : IsExpansion e → All (λ base. Dominates P base.front e.front → ⊥) b.records.index
 
--- Each has a turn of its own. No front that was expanded dominates one that was expanded at a later turn, and what was visited
--- up to the turn of an expansion lies before the rows of its children
+abbrev pub IsSameWorker : Event → Event → Type 0
+IsSameWorker e f = e.fill.origin.worker ≡ f.fill.origin.worker
+
+-- Each expansion of a worker has a turn of its own. No front that a worker expanded dominates one that it expanded at a later turn,
+-- and what it visited up to the turn of an expansion lies before the rows of its children
 pub record AreInTurns (P : Project) (events : List Event) : Type 0 where
   pub few : (e : Event) → Contains events e → e.fill.origin.turn ≤ length events
-  pub one : (e f : Event) → Contains events e → Contains events f → e.fill.origin.turn ≡ f.fill.origin.turn → e ≡ f
-  pub own : (e f : Event) → Contains events e → Contains events f → IsExpansion e → IsExpansion f → e.fill.origin.turn < f.fill.origin.turn → Dominates P e.front f.front → ⊥
-  pub before : (e f : Event) (x : IsExpansion f) → Contains events e → Contains events f → e.fill.origin.turn ≤ f.fill.origin.turn → e.fill.place < x.first
+  pub one : (e f : Event) → Contains events e → Contains events f → IsSameWorker e f → IsExpansion e → IsExpansion f → e.fill.origin.turn ≡ f.fill.origin.turn → e ≡ f
+  pub own : (e f : Event) → Contains events e → Contains events f → IsSameWorker e f → IsExpansion e → IsExpansion f → e.fill.origin.turn < f.fill.origin.turn → Dominates P e.front f.front → ⊥
+  pub before : (e f : Event) (x : IsExpansion f) → Contains events e → Contains events f → IsSameWorker e f → e.fill.origin.turn ≤ f.fill.origin.turn → e.fill.place < x.first
 
 -- the row at the place q is that of a record of earlier rounds, or was expanded in one of these events; its front dominates F
 pub data IsCitedIn (P : Project) (b : Beginning) (events : List Event) (q : ℕ) (F : List Entry) : Type 0 where
   by_earlier : (i : ℕ) → i < length b.records.places → q ≡ slice_index b.records.places i → Dominates P (slice_index_or (fronts_of b.records.index) i []) F → IsCitedIn P b events q F
   by_own : (e : Event) → Contains events e → IsExpansion e → q ≡ e.fill.place → Dominates P e.front F → IsCitedIn P b events q F
+
+-- the note of a live record knows one whose front dominates that of event number i, from 0, which cites some row
+pub record IsCitedLive (P : Project) (events : List Event) (i : ℕ) (live : LiveNote) : Type 0 where
+  pub event : Event
+  pub is_at : slice_get events i ≡ Some event
+  pub row : ℕ
+  pub cites : says_event event ≡ row_cites row
+  pub base : Base
+  pub known : live.note.known ≡ Some base
+  pub dominates : Dominates P base.front event.front
 
 -- the record is of the front that was expanded in this event
 pub record IsMadeBy (P : Project) (m : PlacedRecord) (e : Event) : Type 0 where
@@ -132,7 +157,7 @@ IsNewSaying _ = ⊥
 pub record IsNewRow (b : Beginning) (n : NewRow) : Type 0 where
   pub says : IsNewSaying (says_row n.row)
   pub round : n.origin.round ≡ b.terms.number
-  pub worker : n.origin.worker ≡ b.worker
+  pub worker : IsByOneOf b n.origin
 
 -- Whatever nodes the table stands for: what came is one coming, and each visit did what it may
 pub record IsPartAt (P : Project) (b : Beginning) (ns : List TreeNode) (at : Progress) (s : PartState) : Type 0 where
@@ -143,17 +168,16 @@ pub record IsPartAt (P : Project) (b : Beginning) (ns : List TreeNode) (at : Pro
   pub at_nodes : Each (IsAtNode (ns ++ more)) events
   pub each : Each (IsEventOf P b at.pass.least_seen) events
   pub turns : AreInTurns P events
-  pub cites : (e : Event) (q : ℕ) → Contains events e → says_event e ≡ row_cites q → IsCitedIn P b events q e.front
+  pub cites : (i q : ℕ) (e : Event) → slice_get events i ≡ Some e → says_event e ≡ row_cites q → IsCitedIn P b events q e.front ⊎ Contains s.live i
+  pub live : AllZip (IsCitedLive P events) s.live at.worker.live
   pub made : All (IsMadeIn P events) s.made
   pub made_all : (e : Event) → Contains events e → IsExpansion e → HasRecord s.made e
   pub offered : All (IsOffered P b events) at.pass.offers
 
--- the part, whatever nodes the table stands for while what was dealt waits
+-- the part, whatever nodes the table stands for
 pub record IsPart (P : Project) (b : Beginning) (at : Progress) (s : PartState) : Type 0 where
   pub falls : at.pass.least_seen ≤ end_number b.terms.best
   pub rows : Each (IsNewRow b) s.grown
   pub fronts : map (λ m. m.known.front) s.made ≡ fronts_of at.worker.expanded
   pub expanded : total (λ f. one_expanded (row_saying f.fate)) s.fills ≡ length s.made
-  pub at_tree :
-      (ns : List TreeNode) → Stands P (searching b.terms.best) b.table.rows ns [] (waiting_of b.dealt) → length b.table.origins ≡ length b.table.rows →
-      AreRecords P b.table.rows ns b.records → IsPartAt P b ns at s
+  pub at_tree : (ns : List TreeNode) → BeginsOn b ns → IsPartAt P b ns at s

@@ -1,5 +1,5 @@
 -- What a turn of a worker does to its part.
-use Rattle.std.specs.Prelude.{◌≡◌, ℕ, ◌+◌, ◌*◌, ◌≤◌, Bool, true, false, IfSome, List, [], ◌∷◌, ◌++◌, length, map}
+use Rattle.std.specs.Prelude.{◌≡◌, ℕ, ◌+◌, ◌*◌, ◌<◌, ◌≤◌, Bool, true, false, IfSome, List, [], ◌∷◌, ◌++◌, length, map, All}
 use Rattle.rcpsp_model.specs.declared.parts.Child.{Child}
 use Rattle.rcpsp_model.specs.Project.{Project}
 use Rattle.precedence_tree.specs.declared.base.Base.{Base}
@@ -7,27 +7,36 @@ use Rattle.precedence_tree.specs.Base.{IsBaseOf}
 use Rattle.precedence_tree.specs.Node.{NodeState}
 use Rattle.search_log.specs.declared.row.RowFate.TheVariants.{Expanded}
 use Rattle.search_log.specs.declared.row.Origin.{Origin}
-use Rattle.search_log.specs.declared.row.Fill.{Fill}
 use Rattle.search_log.specs.declared.table.Table.{Table}
 use Rattle.search_rounds.specs.declared.round.WaitingNode.{WaitingNode}
-use Rattle.search_rounds.specs.declared.round.PlacedRecord.{PlacedRecord}
 use Rattle.search_rounds.specs.declared.round.Records.{Records}
 use Rattle.search_rounds.specs.declared.round.Terms.{Terms}
 use Rattle.search_table.specs.PassState.{PassState}
+use Rattle.tree_worker.specs.declared.answer.Close.{Close}
 use Rattle.tree_worker.specs.Worker.{WorkerState, Progress}
 use Rattle.steal_rounds.specs.declared.part.Part.{Part}
 use Rattle.steal_rounds.specs.Children.{new_row, placed_from}
+use Rattle.steal_rounds.specs.Fates.{fate_in, live_numbers, places_of}
 use Rattle.steal_rounds.specs.Part.{Beginning, PartState, part_state, IsPart}
 
 -- a node was expanded whose children's rows begin at the place `first`
 pub record ExpandsAs (P : Project) (place : ℕ) (node : NodeState) (children : List (Child NodeState)) (first : ℕ) (origin : Origin) (before after : PartState) : Type 0 where
   pub grown : after.grown ≡ before.grown ++ map (new_row origin) children
   pub fills : after.fills ≡ before.fills ++ record { place = place; fate = Expanded (length children) first; origin = origin } ∷ []
+  pub live : after.live ≡ before.live
   pub base : Base
   pub front : base.front ≡ node.front
   pub known : IsBaseOf P base
   pub made : after.made ≡ before.made ++ record { place = place; known = base } ∷ []
   pub left : after.left ≡ placed_from first children ++ before.left
+
+-- a node was closed for this reason
+pub record ClosesAs (records : Records) (place : ℕ) (close : Close) (origin : Origin) (before after : PartState) : Type 0 where
+  pub grown : after.grown ≡ before.grown
+  pub fills : after.fills ≡ before.fills ++ record { place = place; fate = fate_in records.places (places_of before.made) close; origin = origin } ∷ []
+  pub live : after.live ≡ before.live ++ live_numbers (length before.fills) close
+  pub made : after.made ≡ before.made
+  pub left : after.left ≡ before.left
 
 -- how far a worker has come: what it holds, what its pass has seen and done, and its part
 pub record Stage : Type 0 where
@@ -38,7 +47,7 @@ abbrev pub stage_of : WorkerState → PassState → Part → Stage
 stage_of worker pass part = record { at = record { worker = worker; pass = pass.view }; part = part_state part }
 
 abbrev pub beginning : Table → Records → ℕ → List WaitingNode → Terms → Beginning
-beginning table records worker dealt terms = record { table = table; records = records; dealt = dealt; terms = terms; worker = worker }
+beginning table records worker dealt terms = record { table = table; records = records; dealt = dealt; terms = terms; first_worker = worker; last_worker = worker }
 
 -- where a node waits before the others
 abbrev pub next_stage : WaitingNode → Stage → Stage
@@ -51,11 +60,15 @@ KeepsPart P table records origin before after =
     IsPart P (beginning table records origin.worker dealt terms) before.at before.part →
     IsPart P (beginning table records origin.worker dealt terms) after.at after.part
 
--- The counts of a part: at most 512 new rows for each fill, and a record for each ticket that was won
+-- The counts of a part: at most 512 new rows for each fill, a record for each ticket that was won, and the number of a fill for
+-- each live citation; what was offered ends by 1,290,000
 pub record Counts (s : Stage) : Type 0 where
   pub grown : length s.part.grown ≤ 512 * length s.part.fills
   pub made : length s.part.made ≡ length s.at.worker.expanded
   pub won : s.at.pass.won ≡ length s.part.made
+  pub live : length s.part.live ≡ length s.at.worker.live
+  pub numbers : All (λ i. i < length s.part.fills) s.part.live
+  pub soon : All (λ end. end ≤ 1290000) s.at.pass.offers
 
 -- a turn that goes on filled one row more, and one that ends the part was refused a ticket
 abbrev pub IsTurn : Bool → Stage → Stage → Type 0

@@ -1,13 +1,20 @@
-//! Workers that run the rounds of a search: each visits nodes in turn, first its own children and then what it was dealt, and
-//! what it did joins the table of the search.
+//! Workers that run the rounds of a search side by side: each visits nodes in turn, first its own children and then what it was
+//! dealt; what they did is put together and joins the table of the search. Rounds go on until the search has ended.
 #![tactic(auto)]
 
+mod citing;
 mod crew;
+mod dealing;
 mod expanding;
+mod gathering;
+mod member;
 mod part;
+mod preorder;
+mod searching;
 mod source;
 #[cfg(test)]
 mod tests;
 mod work;
 
-pub use crew::Crew;
+pub use crew::round;
+pub use searching::{search, search_from};

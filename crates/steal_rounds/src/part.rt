@@ -9,6 +9,9 @@ pub(crate) struct Part {
     pub grown: Vec<NewRow>,
     /// What became of the nodes that it visited, in order.
     pub fills: Vec<Fill>,
+    /// The numbers, from 0, of those fills that cite a live record, in order. The row of such a record is known once all
+    /// workers have ended; until then the fill cites the first row.
+    pub live: Vec<u32>,
     /// The fronts that it expanded, in order.
     pub made: Vec<PlacedRecord>,
     /// The nodes that wait for it.

@@ -1,10 +1,13 @@
 use super::*;
 use proof_log::{LogLine, Verdict};
-use sched_base::Fate;
-use search_rounds::{Found, search};
+use sched_base::{Fate, OpenGate};
+use search_rounds::Found;
 use std::process::Abort;
 use std::test::Fail;
-use worked_projects::{NO_LENGTH, SHORT_OR_CHEAP, TWINS, TWO_IN_TURN, WorkedProject, build};
+use worked_projects::{
+    EIGHTEEN_JOBS_TIGHT, NEEDS_DIFFER, NO_LENGTH, SHORT_OR_CHEAP, TWINS, TWO_IN_TURN,
+    WorkedProject, build,
+};
 
 /// A line of a log: its job, its mode, its start, and what it says.
 type Line = (u8, u8, Option<u32>, Fate);
@@ -131,8 +134,40 @@ fn compare(rt: &impl Abort, case: &Case, found: &Found) {
 fn searches_of_one_worker(rt: HostRuntime) -> Result<(), Fail> {
     for case in &CASES {
         let project = build(rt.alloc(), case.project)?;
-        let found = search(rt.alloc(), &project, &mut Crew, case.nodes)?;
+        let found = search(&rt, rt.alloc(), &project, 1, case.nodes, &OpenGate)?;
         compare(&rt, case, &found);
+    }
+    Ok(())
+}
+
+/// Projects that are searched by crews of several sizes.
+const SHARED: [&WorkedProject; 5] = [
+    &TWO_IN_TURN,
+    &TWINS,
+    &NO_LENGTH,
+    &NEEDS_DIFFER,
+    &EIGHTEEN_JOBS_TIGHT,
+];
+
+const EXPANSIONS: u32 = 5000;
+
+// Two searches that reached their end say the same.
+fn agree(verdict: Verdict, other: Verdict) -> bool {
+    match (verdict, other) {
+        (Verdict::Limit { .. }, _) | (_, Verdict::Limit { .. }) => true,
+        (verdict, other) => verdict == other,
+    }
+}
+
+#[test]
+fn searches_of_several_workers(rt: HostRuntime) -> Result<(), Fail> {
+    for worked in &SHARED {
+        let project = build(rt.alloc(), worked)?;
+        let alone = search(&rt, rt.alloc(), &project, 1, EXPANSIONS, &OpenGate)?;
+        for workers in [2, 3, 32] {
+            let found = search(&rt, rt.alloc(), &project, workers, EXPANSIONS, &OpenGate)?;
+            assert!(rt; agree(alone.verdict, found.verdict), "{} workers", workers);
+        }
     }
     Ok(())
 }

@@ -1,18 +1,18 @@
 // What a worker does in a round.
-ghost use Rattle.std.specs.Prelude.{◌≡◌, ◌+◌, ◌≤◌, ◌<◌, [], length, All, IfOk, OnOk};
+ghost use Rattle.std.specs.Prelude.{◌≡◌, ◌+◌, ◌≤◌, ◌<◌, ◌++◌, [], length, All, IfOk, OnOk};
 ghost use Rattle.precedence_tree.specs.Base.{IsBaseOf};
 ghost use Rattle.precedence_tree.specs.Node.{StandsFor};
 ghost use Rattle.tree_worker.specs.Worker.{IsAtWork};
 ghost use Rattle.tree_worker.specs.Visits.{StaysOf};
-ghost use Rattle.steal_rounds.specs.Fates.{IsCitedWithin, fate_in, places_of};
+ghost use Rattle.steal_rounds.specs.Fates.{IsCitedWithin, fate_in, live_numbers, places_of};
 ghost use Rattle.steal_rounds.specs.Part.{part_state};
-ghost use Rattle.steal_rounds.specs.Turns.{stage_of, next_stage, KeepsPart, Counts, IsTurn};
+ghost use Rattle.steal_rounds.specs.Turns.{stage_of, next_stage, ClosesAs, KeepsPart, Counts, IsTurn};
 
 use crate::expanding::expanded;
 use crate::part::Part;
 use cutset_store::CutRecord;
 use project_net::Project;
-use sched_base::NoMemory;
+use sched_base::{Gate, NoMemory};
 use search_log::{Fill, Origin, RowFate, Table};
 use search_rounds::{PlacedRecord, Records, WaitingNode};
 use search_table::{Pass, RoundTable};
@@ -23,7 +23,7 @@ use tree_worker::{Cite, Close, TreeWorker, Visited};
 /// How many visits a worker makes in a round at most.
 const MOST_VISITS: u32 = 65536;
 
-// The fate of a node that a visit closed: a record is cited by the place of its row.
+// The fate of a node that a visit closed. A record is cited by the place of its row; that of a live one isn't known yet.
 fn fate_of(close: Close, records: &Records, made: &[PlacedRecord]) -> RowFate
     requires { IsCitedWithin (length records.now.places) (length made.now) close }
     ensures { result ≡ fate_in records.now.places (places_of made.now) close }
@@ -37,12 +37,48 @@ fn fate_of(close: Close, records: &Records, made: &[PlacedRecord]) -> RowFate
             RowFate::Cited(places[number as usize])
         }
         Close::Cutset(Cite::Own(number)) => RowFate::Cited(made[number as usize].place),
-        Close::Cutset(Cite::Live { .. }) => unreachable!(),
+        Close::Cutset(Cite::Live { .. }) => RowFate::Cited(0),
     }
 }
 
+// Keeps the number of the next fill, if its node was closed by a live record.
+fn note_live(live: &mut Vec<u32>, number: u32, close: Close) -> Result<(), NoMemory>
+    ensures { OnOk result (live.new.items ≡ live.old.items ++ live_numbers number close) }
+{
+    match close {
+        Close::Cutset(Cite::Live { .. }) => {
+            live.push(number)?;
+            Ok(())
+        }
+        _ => Ok(()),
+    }
+}
+
+// A node at a place was closed.
+fn closed(
+    records: &Records,
+    part: &mut Part,
+    place: u32,
+    close: Close,
+    origin: Origin,
+) -> Result<(), NoMemory>
+    requires cited { IsCitedWithin (length records.now.places) (length part.old.made.items) close }
+    requires few { length part.old.fills.items ≤ 65536 }
+    ensures { OnOk result (ClosesAs records.now place close origin (part_state part.old) (part_state part.new)) }
+{
+    let fate = fate_of(close, records, part.made.as_slice());
+    let number = part.fills.as_slice().len() as u32;
+    note_live(&mut part.live, number, close)?;
+    part.fills.push(Fill {
+        place,
+        fate,
+        origin,
+    })?;
+    Ok(())
+}
+
 // Visits a node at a turn, and says whether the part goes on.
-fn take_turn<C: Cells<CutRecord>>(
+fn take_turn<C: Cells<CutRecord>, G: Gate>(
     alloc: Global,
     project: &Project,
     table: &Table,
@@ -55,11 +91,10 @@ fn take_turn<C: Cells<CutRecord>>(
     part: &mut Part,
     origin: Origin,
     next: WaitingNode,
+    gate: &G,
 ) -> Result<bool, NoMemory>
     requires table { pass.old.table ≡ words.now }
     requires work { IsAtWork project.now rows.now (record { worker = worker.old; pass = pass.old.view }) }
-    requires rows { rows.now.workers ≡ 1 }
-    requires alone { pass.old.view.number ≡ 1 }
     requires unrefused { pass.old.view.refused ≡ 0 }
     requires records { All (IsBaseOf project.now) records.now.index }
     requires places { length records.now.places ≡ length records.now.index }
@@ -91,17 +126,13 @@ fn take_turn<C: Cells<CutRecord>>(
         node,
     )? {
         Visited::Closed(_, close) => {
-            let fate = fate_of(close, records, part.made.as_slice());
-            part.fills.push(Fill {
-                place,
-                fate,
-                origin,
-            })?;
+            closed(records, part, place, close, origin)?;
             Ok(true)
         }
         Visited::Expanded(node, children) => {
             let first = table.rows.len() + part.grown.as_slice().len() as u32;
             expanded(alloc, project, part, place, &node, children, first, origin)?;
+            gate.pass(origin.worker);
             Ok(true)
         }
         Visited::Back(node) => {
@@ -112,7 +143,7 @@ fn take_turn<C: Cells<CutRecord>>(
 }
 
 /// Visits nodes until none waits, a ticket is refused, or enough were visited.
-pub(crate) fn work(
+pub(crate) fn work<G: Gate>(
     alloc: Global,
     project: &Project,
     table: &Table,
@@ -123,11 +154,10 @@ pub(crate) fn work(
     pass: &mut Pass,
     part: &mut Part,
     round: u32,
+    gate: &G,
 ) -> Result<(), NoMemory>
     requires table { pass.old.table ≡ words.now }
     requires work { IsAtWork project.now rows.now (record { worker = worker.old; pass = pass.old.view }) }
-    requires rows { rows.now.workers ≡ 1 }
-    requires alone { pass.old.view.number ≡ 1 }
     requires unrefused { pass.old.view.refused ≡ 0 }
     requires records { All (IsBaseOf project.now) records.now.index }
     requires places { length records.now.places ≡ length records.now.index }
@@ -145,6 +175,7 @@ pub(crate) fn work(
 {
     let mut cells = OnceCells::new();
     let number = pass.number();
+    gate.pass(number);
     for done in 0..MOST_VISITS {
         let next = match part.source.take() {
             Some(next) => next,
@@ -157,7 +188,7 @@ pub(crate) fn work(
         };
         if !take_turn(
             alloc, project, table, records, words, rows, worker, pass, &mut cells, part, origin,
-            next,
+            next, gate,
         )? {
             return Ok(());
         }

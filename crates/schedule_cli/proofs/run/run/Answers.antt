@@ -2,24 +2,50 @@ use Rattle.std.proofs.Common.{◌≡◌, ◌∙◌, map, string_bytes}
 use Rattle.schedule_cli.specs.declared.status.Status.TheVariants.{NoMemory}
 use Rattle.schedule_cli.specs.Status.{IsFaultless}
 use Rattle.schedule_cli.proofs.StatusesTold.{told_bad_project, told_solved, told_printed, told_complete, made_is_done}
+use Rattle.schedule_cli.proofs.ReportsTold.{tells_solution, tells_accepted, tells_no_later, tells_no_twins, tells_ends}
 use Rattle.schedule_cli.proofs.run.run.Goals as goal
 
 pub returns-in-Ok-tell-clause-bad_project : goal.returns-in-Ok-tell-clause-bad_project
 returns-in-Ok-tell-clause-bad_project g c told =
-    told_bad_project (map string_bytes c.args.words.now) (g.S.Shelf.texts c.args.shelf.now) c.in-Ok.answer c.status.result c.in-Ok.ensures.answer c.status.ensures
+    told_bad_project (map string_bytes c.args.words.now) (g.S.Shelf.texts c.args.shelf.now) c.in-Ok.answer c.status-status.result c.in-Ok.ensures.answer c.status-status.ensures
 
 pub returns-in-Ok-tell-clause-solved : goal.returns-in-Ok-tell-clause-solved
 returns-in-Ok-tell-clause-solved g c told =
-    told_solved (map string_bytes c.args.words.now) (g.S.Shelf.texts c.args.shelf.now) c.in-Ok.answer c.status.result c.in-Ok.ensures.answer c.status.ensures
+    told_solved (map string_bytes c.args.words.now) (g.S.Shelf.texts c.args.shelf.now) c.in-Ok.answer c.status-status.result c.in-Ok.ensures.answer c.status-status.ensures
 
 pub returns-in-Ok-tell-clause-complete : goal.returns-in-Ok-tell-clause-complete
 returns-in-Ok-tell-clause-complete g c =
-    told_complete (map string_bytes c.args.words.now) (g.S.Shelf.texts c.args.shelf.now) c.in-Ok.answer c.status.result
-    (IsFaultless (g.S.Shelf.faults c.args.shelf.now) (g.S.Shelf.faults c.answer_to.new.shelf)) (IsFaultless (g.K.Sink.faults c.args.out.now) (g.K.Sink.faults c.tell.new.out)) (c.status.result ≡ NoMemory → ⊥)
-    c.in-Ok.ensures.answer c.status.ensures
+    told_complete (map string_bytes c.args.words.now) (g.S.Shelf.texts c.args.shelf.now) c.in-Ok.answer c.status-status.result
+    (IsFaultless (g.S.Shelf.faults c.args.shelf.now) (g.S.Shelf.faults c.answer_to.new.shelf)) (IsFaultless (g.K.Sink.faults c.args.out.now) (g.K.Sink.faults c.tell.new.out)) (c.status-status.result ≡ NoMemory → ⊥)
+    c.in-Ok.ensures.answer c.status-status.ensures
 
 pub returns-in-Ok-tell-clause-printed : goal.returns-in-Ok-tell-clause-printed
-returns-in-Ok-tell-clause-printed g c = told_printed (map string_bytes c.args.words.now) (g.S.Shelf.texts c.args.shelf.now) c.in-Ok.answer c.status.result c.in-Ok.ensures.answer c.status.ensures
+returns-in-Ok-tell-clause-printed g c = told_printed (map string_bytes c.args.words.now) (g.S.Shelf.texts c.args.shelf.now) c.in-Ok.answer c.status-status.result c.in-Ok.ensures.answer c.status-status.ensures
 
 pub returns-in-Ok-tell-clause-makes : goal.returns-in-Ok-tell-clause-makes
-returns-in-Ok-tell-clause-makes g c make _ _ = c.status.ensures ∙ made_is_done (map string_bytes c.args.words.now) (g.S.Shelf.texts c.args.shelf.now) c.in-Ok.answer c.in-Ok.ensures.answer make
+returns-in-Ok-tell-clause-makes g c make _ _ = c.status-status.ensures ∙ made_is_done (map string_bytes c.args.words.now) (g.S.Shelf.texts c.args.shelf.now) c.in-Ok.answer c.in-Ok.ensures.answer make
+
+pub returns-in-Ok-tell-clause-report : goal.returns-in-Ok-tell-clause-report
+returns-in-Ok-tell-clause-report g c =
+    tells_solution (map string_bytes c.args.words.now) (g.S.Shelf.texts c.args.shelf.now) c.in-Ok.answer c.status-status.result (g.K.Sink.held c.args.out.now) (g.K.Sink.held c.tell.new.out) c.in-Ok.ensures.answer
+    c.status-status.ensures c.in-Ok-tell.ensures.whole
+
+pub returns-in-Ok-tell-clause-accepted : goal.returns-in-Ok-tell-clause-accepted
+returns-in-Ok-tell-clause-accepted g c =
+    tells_accepted (map string_bytes c.args.words.now) (g.S.Shelf.texts c.args.shelf.now) c.in-Ok.answer c.status-status.result (g.K.Sink.held c.args.out.now) (g.K.Sink.held c.tell.new.out) c.in-Ok.ensures.answer
+    c.status-status.ensures c.in-Ok-tell.ensures.whole
+
+pub returns-in-Ok-tell-clause-no_later : goal.returns-in-Ok-tell-clause-no_later
+returns-in-Ok-tell-clause-no_later g c =
+    tells_no_later (map string_bytes c.args.words.now) (g.S.Shelf.texts c.args.shelf.now) c.in-Ok.answer c.status-status.result (g.K.Sink.held c.args.out.now) (g.K.Sink.held c.tell.new.out) c.in-Ok.ensures.answer
+    c.status-status.ensures c.in-Ok-tell.ensures.whole
+
+pub returns-in-Ok-tell-clause-no_twins : goal.returns-in-Ok-tell-clause-no_twins
+returns-in-Ok-tell-clause-no_twins g c =
+    tells_no_twins (map string_bytes c.args.words.now) (g.S.Shelf.texts c.args.shelf.now) c.in-Ok.answer c.status-status.result (g.K.Sink.held c.args.out.now) (g.K.Sink.held c.tell.new.out) c.in-Ok.ensures.answer
+    c.status-status.ensures c.in-Ok-tell.ensures.whole
+
+pub returns-in-Ok-tell-clause-ends : goal.returns-in-Ok-tell-clause-ends
+returns-in-Ok-tell-clause-ends g c =
+    tells_ends (map string_bytes c.args.words.now) (g.S.Shelf.texts c.args.shelf.now) c.in-Ok.answer c.status-status.result (g.K.Sink.held c.args.out.now) (g.K.Sink.held c.tell.new.out) c.in-Ok.ensures.answer
+    c.status-status.ensures c.in-Ok-tell.ensures.whole

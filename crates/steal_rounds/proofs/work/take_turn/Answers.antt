@@ -1,33 +1,32 @@
-use Rattle.std.proofs.Common.{◌≡◌, ◌∙◌, ℕ, ◌+◌, refl, sym, ap, subst, arith, List, ◌∷◌, ◌++◌, [], length, All}
+use Rattle.std.proofs.Common.{◌≡◌, ◌∙◌, ◌+◌, refl, sym, ap, subst, arith, ◌∷◌, length, All}
 use Rattle.precedence_tree.specs.Node.{NodeState, StandsFor}
-use Rattle.search_log.specs.declared.row.RowFate.{RowFate}
-use Rattle.search_log.specs.declared.row.Fill.{Fill}
-use Rattle.search_rounds.specs.declared.round.PlacedRecord.{PlacedRecord}
 use Rattle.search_rounds.specs.declared.round.WaitingNode.{WaitingNode}
-use Rattle.steal_rounds.specs.Fates.{fate_in, places_of}
 use Rattle.steal_rounds.specs.Part.{part_state}
 use Rattle.steal_rounds.specs.Turns.{ExpandsAs}
 use Rattle.steal_rounds.proofs.ChildRows.{kid-stands}
 use Rattle.steal_rounds.proofs.ClosedNodes.{cited-within}
-use Rattle.steal_rounds.proofs.TurnSteps.{same_part, fill_by, closed-keeps, expanded-keeps, back-keeps}
-use Rattle.steal_rounds.proofs.VisitTurns.{closed-visit, expanded-visit, back-visit, few-kids, expanded-counts}
+use Rattle.steal_rounds.proofs.TurnSteps.{same_part, closed-keeps, expanded-keeps, back-keeps}
+use Rattle.steal_rounds.proofs.VisitTurns.{closed-visit, expanded-visit, back-visit, few-kids, expanded-counts, closed-counts, back-counts}
 use Rattle.steal_rounds.proofs.work.take_turn.Goals as goal
 
-pub fate_of-fate-requires : goal.fate_of-fate-requires
-fate_of-fate-requires g c =
+pub closed-requires-clause-cited : goal.closed-requires-clause-cited
+closed-requires-clause-cited g c =
     let v = closed-visit c.args.project.now c.args.records.now.index c.args.rows.now _ _ c.args.next.node c.in-Closed.field-0 _ _ c.in_ok-close.field-0 c.in-Closed.close c.in_ok-close.ensures.visits c.in-Closed.is in
-    cited-within c.args.project.now c.args.records.now.index c.args.rows.now v.best c.args.next.node.front _ _ c.in-Closed.close (length c.args.records.now.places) (length c.as_slice.result.now) c.requires.rows
-    (c.visit.ensures.stays.number ∙ c.requires.alone) c.requires.places (ap length c.as_slice.ensures.value ∙ c.requires.counts.made) v.closes
+    cited-within c.args.project.now c.args.records.now.index c.args.rows.now v.best c.args.next.node.front _ _ c.in-Closed.close (length c.args.records.now.places) (length c.args.part.now.made.items)
+    c.requires.places c.requires.counts.made v.closes
 
 pub returns-in-Closed-clause-keeps : goal.returns-in-Closed-clause-keeps
 returns-in-Closed-clause-keeps g c =
     let v = closed-visit c.args.project.now c.args.records.now.index c.args.rows.now _ _ c.args.next.node c.in-Closed.field-0 _ _ c.in_ok-close.field-0 c.in-Closed.close c.in_ok-close.ensures.visits c.in-Closed.is in
     let s = part_state c.args.part.now in
-    let fate : c.fate_of-fate.result ≡ fate_in c.args.records.now.places (places_of s.made) c.in-Closed.close =
-    c.fate_of-fate.ensures ∙ ap (λ (made : List PlacedRecord). fate_in c.args.records.now.places (places_of made) c.in-Closed.close) c.as_slice.ensures.value in
-    closed-keeps c.args.project.now c.args.rows.now v.best c.args.table.now c.args.records.now c.args.origin c.args.next _ _ s _ c.in-Closed.close c.known.ensures c.requires.node c.requires.rows
-    (c.visit.ensures.stays.number ∙ c.requires.alone) c.requires.places v.low v.falls c.requires.turn v.closes v.expanded
-    (same_part _ _ refl (c.in_ok-push-in-Closed.ensures.items ∙ ap (λ (f : RowFate). s.fills ++ fill_by c.args.next.place f c.args.origin ∷ []) fate) refl refl)
+    let is = c.in_ok-closed-in-Closed.ensures in
+    closed-keeps c.args.project.now c.args.rows.now v.best c.args.table.now c.args.records.now c.args.origin c.args.next _ _ s _ c.in-Closed.close c.known.ensures c.requires.node
+    c.requires.places v.low v.falls c.requires.turn v.closes v.expanded (same_part _ _ is.grown is.fills is.live is.made is.left)
+
+pub returns-in-Closed-clause-counts : goal.returns-in-Closed-clause-counts
+returns-in-Closed-clause-counts g c =
+    let v = closed-visit c.args.project.now c.args.records.now.index c.args.rows.now _ _ c.args.next.node c.in-Closed.field-0 _ _ c.in_ok-close.field-0 c.in-Closed.close c.in_ok-close.ensures.visits c.in-Closed.is in
+    closed-counts c.args.project.now c.args.records.now c.args.rows.now c.args.next.place c.args.next.node _ _ _ _ c.in-Closed.close c.args.origin c.known.ensures.limits c.requires.node v c.in_ok-closed-in-Closed.ensures c.requires.counts
 
 pub expanded-requires-clause-few : goal.expanded-requires-clause-few
 expanded-requires-clause-few g c =
@@ -43,7 +42,7 @@ expanded-requires-clause-room g c =
     let most = c.requires.few in
     let rows = c.requires.room in
     let a = c.len.ensures in
-    let d : length c.as_slice-in-Expanded.result.now ≡ length c.args.part.now.grown.items = ap length c.as_slice-in-Expanded.ensures.value in
+    let d : length c.as_slice.result.now ≡ length c.args.part.now.grown.items = ap length c.as_slice.ensures.value in
     omega arith
 
 pub returns-in-Expanded-clause-nodes : goal.returns-in-Expanded-clause-nodes
@@ -62,13 +61,18 @@ returns-in-Expanded-clause-keeps g c =
     let v = expanded-visit c.args.project.now c.args.records.now.index c.args.rows.now _ _ c.args.next.node c.in-Expanded.node _ _ c.in_ok-close.field-0 c.in-Expanded.children c.in_ok-close.ensures.visits c.in-Expanded.is in
     let s = part_state c.args.part.now in
     let a = c.len.ensures in
-    let d : length c.as_slice-in-Expanded.result.now ≡ length c.args.part.now.grown.items = ap length c.as_slice-in-Expanded.ensures.value in
+    let d : length c.as_slice.result.now ≡ length c.args.part.now.grown.items = ap length c.as_slice.ensures.value in
     expanded-keeps c.args.project.now v.best c.args.table.now c.args.records.now c.args.origin c.args.next _ _ s _ c.in-Expanded.children _ v.low v.falls c.requires.turn (omega arith) v.expanding
-    (subst (λ (n : NodeState). ExpandsAs c.args.project.now c.args.next.place n c.in-Expanded.children (c.len.result + length c.as_slice-in-Expanded.result.now) c.args.origin s (part_state c.expanded.new.part)) v.same c.in_ok-expanded-in-Expanded.ensures)
+    (subst (λ (n : NodeState). ExpandsAs c.args.project.now c.args.next.place n c.in-Expanded.children (c.len.result + length c.as_slice.result.now) c.args.origin s (part_state c.expanded.new.part)) v.same c.in_ok-expanded-in-Expanded.ensures)
+
+pub returns-clause-counts : goal.returns-clause-counts
+returns-clause-counts g c =
+    let v = back-visit c.args.project.now c.args.records.now.index c.args.rows.now _ _ c.args.next.node c.in-Back.node _ _ c.in_ok-close.field-0 c.in_ok-close.ensures.visits c.in-Back.is in
+    back-counts c.args.next.node c.in-Back.node _ _ _ _ v refl refl refl refl c.requires.counts
 
 pub returns-clause-keeps : goal.returns-clause-keeps
 returns-clause-keeps g c =
     let v = back-visit c.args.project.now c.args.records.now.index c.args.rows.now _ _ c.args.next.node c.in-Back.node _ _ c.in_ok-close.field-0 c.in_ok-close.ensures.visits c.in-Back.is in
     let s = part_state c.args.part.now in
-    back-keeps c.args.project.now c.args.table.now c.args.records.now c.args.origin c.args.next _ _ s _ v.falls v.offers v.expanded
-    (same_part _ _ refl refl refl (c.in_ok-put-in-Back.ensures ∙ ap (λ (n : NodeState). let w : WaitingNode = record { place = c.args.next.place; node = n } in w ∷ s.left) v.same))
+    back-keeps c.args.project.now c.args.table.now c.args.records.now c.args.origin c.args.next _ _ s _ v.falls v.offers v.expanded v.live
+    (same_part _ _ refl refl refl refl (c.in_ok-put-in-Back.ensures ∙ ap (λ (n : NodeState). let w : WaitingNode = record { place = c.args.next.place; node = n } in w ∷ s.left) v.same))

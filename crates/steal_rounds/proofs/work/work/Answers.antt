@@ -1,4 +1,4 @@
-use Rattle.std.proofs.Common.{◌≡◌, ◌∙◌, ℕ, ◌+◌, refl, sym, ap, subst, arith, List}
+use Rattle.std.proofs.Common.{◌∙◌, ℕ, ◌+◌, refl, sym, subst, arith, List}
 use Rattle.search_rounds.specs.declared.round.WaitingNode.{WaitingNode}
 use Rattle.steal_rounds.specs.Part.{part_state}
 use Rattle.steal_rounds.specs.Turns.{stage_of, KeepsPart}
@@ -7,22 +7,22 @@ use Rattle.steal_rounds.proofs.TurnChains.{keeps-taken, next-stands, others-stan
 use Rattle.steal_rounds.proofs.work.work.Goals as goal
 
 pub returns-in-None-clause-keeps : goal.returns-in-None-clause-keeps
-returns-in-None-clause-keeps c =
+returns-in-None-clause-keeps g c =
     let l = c.loop-done in
     let s = part_state l.part in
     subst (λ (w : ℕ). KeepsPart c.args.project.now c.args.table.now c.args.records.now (record { round = c.args.round; worker = w; turn = 0 }) (stage_of c.args.worker.now c.args.pass.now c.args.part.now)
-    (record { at = record { worker = l.worker; pass = l.pass.view }; part = part_by s.grown s.fills s.made c.take.new.self })) c.number-number.ensures.number
+    (record { at = record { worker = l.worker; pass = l.pass.view }; part = part_by s.grown s.fills s.live s.made c.take.new.self })) c.number-number.ensures.number
     (subst (λ (left : List WaitingNode). KeepsPart c.args.project.now c.args.table.now c.args.records.now (record { round = c.args.round; worker = c.number-number.result; turn = 0 })
-    (stage_of c.args.worker.now c.args.pass.now c.args.part.now) (record { at = record { worker = l.worker; pass = l.pass.view }; part = part_by s.grown s.fills s.made left })) (c.in-None.ensures.0 ∙ sym c.in-None.ensures.1) l.invariant.keeps)
+    (stage_of c.args.worker.now c.args.pass.now c.args.part.now) (record { at = record { worker = l.worker; pass = l.pass.view }; part = part_by s.grown s.fills s.live s.made left })) (c.in-None.ensures.0 ∙ sym c.in-None.ensures.1) l.invariant.keeps)
 
 pub take_turn-requires-clause-node : goal.take_turn-requires-clause-node
-take_turn-requires-clause-node c = next-stands c.args.project.now c.loop-done.part.source c.take.new.self c.in-Some.next c.in-Some.ensures c.loop-done.invariant.nodes
+take_turn-requires-clause-node g c = next-stands c.args.project.now c.loop-done.part.source c.take.new.self c.in-Some.next c.in-Some.ensures c.loop-done.invariant.nodes
 
 pub take_turn-requires-clause-others : goal.take_turn-requires-clause-others
-take_turn-requires-clause-others c = others-stand c.args.project.now c.loop-done.part.source c.take.new.self c.in-Some.next c.in-Some.ensures c.loop-done.invariant.nodes
+take_turn-requires-clause-others g c = others-stand c.args.project.now c.loop-done.part.source c.take.new.self c.in-Some.next c.in-Some.ensures c.loop-done.invariant.nodes
 
 pub returns-then-not-branch-clause-keeps : goal.returns-then-not-branch-clause-keeps
-returns-then-not-branch-clause-keeps c =
+returns-then-not-branch-clause-keeps g c =
     subst (λ (w : ℕ). KeepsPart c.args.project.now c.args.table.now c.args.records.now (record { round = c.args.round; worker = w; turn = 0 }) (stage_of c.args.worker.now c.args.pass.now c.args.part.now)
     (stage_of c.take_turn.new.worker c.take_turn.new.pass c.take_turn.new.part)) c.number-number.ensures.number
     (keeps-taken c.args.project.now c.args.table.now c.args.records.now (record { round = c.args.round; worker = c.number-number.result; turn = c.loop-done.done + 1 }) (record { round = c.args.round; worker = c.number-number.result; turn = 0 })
@@ -30,7 +30,7 @@ returns-then-not-branch-clause-keeps c =
     c.in-Some.ensures c.loop-done.invariant.keeps c.in_ok-take_turn.ensures.keeps)
 
 pub loop-done-preserved : goal.loop-done-preserved
-loop-done-preserved c =
+loop-done-preserved g c =
     let on = turned c.in_ok-take_turn.field-0 _ _ c.if-not-branch.false c.in_ok-take_turn.ensures.turn in
     let fills = c.loop-done.invariant.fills in
     let more = on.0 in
@@ -50,6 +50,6 @@ loop-done-preserved c =
     }
 
 pub returns-clause-keeps : goal.returns-clause-keeps
-returns-clause-keeps c =
+returns-clause-keeps g c =
     subst (λ (w : ℕ). KeepsPart c.args.project.now c.args.table.now c.args.records.now (record { round = c.args.round; worker = w; turn = 0 }) (stage_of c.args.worker.now c.args.pass.now c.args.part.now)
     (stage_of c.loop-done.worker c.loop-done.pass c.loop-done.part)) c.number-number.ensures.number c.loop-done.invariant.keeps

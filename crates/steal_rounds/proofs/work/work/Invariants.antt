@@ -6,7 +6,7 @@ use Rattle.steal_rounds.specs.Turns.{stage_of, KeepsPart, Counts}
 use Rattle.steal_rounds.proofs.work.work.Given as goal
 
 abbrev pub invariant-loop-done : goal.invariant-loop-done
-invariant-loop-done l = record {
+invariant-loop-done g l = record {
   table : l.pass.table ≡ l.words;
   stays : StaysOf l.initial.pass.view l.pass.view;
   work : IsAtWork l.project l.rows (record { worker = l.worker; pass = l.pass.view });

@@ -1,0 +1,78 @@
+//! A search, and the report that is told of it.
+
+ghost use Rattle.std.specs.Prelude.{◌≡◌, ◌≤◌, IfOk};
+ghost use Rattle.proof_log.specs.Report.{IsReport};
+ghost use Rattle.search_rounds.specs.Found.{report_of, IsFoundFromFirst};
+ghost use Rattle.schedule_cli.specs.Solve.{with_log, IsSearched};
+
+use log_truth::true_claim;
+use project_net::Project;
+use proof_log::Report;
+use sched_base::{Gate, NoMemory};
+use search_rounds::{Found, told_report};
+use std::alloc::Global;
+use std::thread::Threads;
+use steal_rounds::search;
+
+/// How a search is to run, and what is to be told of it.
+#[derive(Clone, Copy, Debug, PartialEq, Eq)]
+pub struct Request {
+    /// How many workers search, 1 to 32.
+    pub workers: u32,
+    /// How many nodes they may expand, at most 100,000.
+    pub nodes: u32,
+    /// Whether the log is told.
+    pub log: bool,
+}
+
+/// What the workers found.
+fn found_by<R: Threads + Sync, G: Gate + Sync>(
+    rt: &R,
+    alloc: Global,
+    gate: &G,
+    project: &Project,
+    request: Request,
+) -> Result<Found, NoMemory>
+    requires some { 1 ≤ request.workers }
+    requires few { request.workers ≤ 32 }
+    requires nodes { request.nodes ≤ 100000 }
+    ensures { IfOk result (IsFoundFromFirst project.now request.workers request.nodes) }
+{
+    search(rt, alloc, project, request.workers, request.nodes, gate)
+}
+
+/// The report of what was found, with its log or without.
+fn told(found: Found, log: bool) -> Report
+    ensures { result ≡ with_log log (report_of found) }
+{
+    let Found {
+        verdict,
+        best,
+        log: lines,
+        origins: _,
+        starts: _,
+    } = found;
+    let log = if log { Some(lines) } else { None };
+    Report { verdict, best, log }
+}
+
+/// The report on a project.
+pub fn report_on<R: Threads + Sync, G: Gate + Sync>(
+    rt: &R,
+    alloc: Global,
+    gate: &G,
+    project: &Project,
+    request: Request,
+) -> Result<Report, NoMemory>
+    requires some { 1 ≤ request.workers }
+    requires few { request.workers ≤ 32 }
+    requires nodes { request.nodes ≤ 100000 }
+    ensures report { IfOk result (IsSearched project.now request.workers request.nodes request.log) }
+    ensures text { IfOk result IsReport }
+{
+    project.known();
+    told_report();
+    true_claim();
+    let found = found_by(rt, alloc, gate, project, request)?;
+    Ok(told(found, request.log))
+}

@@ -1,0 +1,277 @@
+-- What all workers did in a round is a round.
+use Rattle.std.proofs.Common.{◌≡◌, ℕ, ◌+◌, ◌<◌, ◌≤◌, inl, refl, sym, ap, subst, ◌∙◌, arith, List, [], ◌∷◌, length, All, Option, None, Global, min, vec_len}
+use Rattle.std.specs.declared.vec.Vec.{Vec}
+use Rattle.std.specs.Prelude.{IfSome, Contains}
+use Rattle.std.specs.List.{AllZip}
+use Rattle.std.proofs.Common.{IsPermutation, sum_by}
+use Rattle.std.proofs.lemmas.List.Sums.{sum_by-cons}
+use Rattle.std.proofs.lemmas.List.Sorted.{All-permutation, sum_by-IsPermutation}
+use Rattle.atomic_table.specs.Seated.{TableId}
+use Rattle.rcpsp_model.specs.declared.parts.Placing.{Placing}
+use Rattle.rcpsp_model.specs.Project.{Project}
+use Rattle.rcpsp_model.proofs.Lists.{In-All, In-from_Contains, Contains-from_In, All-from_In}
+use Rattle.precedence_tree.specs.Node.{StandsFor}
+use Rattle.search_log.specs.declared.row.Fill.{Fill}
+use Rattle.search_log.specs.declared.table.Table.{Table}
+use Rattle.search_log.specs.Weights.{total, Each}
+use Rattle.search_log.specs.Lean.{end_number}
+use Rattle.search_rounds.specs.declared.round.NewRow.{NewRow}
+use Rattle.search_rounds.specs.declared.round.WaitingNode.{WaitingNode}
+use Rattle.search_rounds.specs.declared.round.PlacedRecord.{PlacedRecord}
+use Rattle.search_rounds.specs.declared.round.Records.{Records}
+use Rattle.search_rounds.specs.declared.round.Terms.{Terms}
+use Rattle.search_rounds.specs.declared.round.RoundResult.{RoundResult}
+use Rattle.search_rounds.specs.Round.{IsRoundOn}
+use Rattle.search_table.specs.declared.view.PassView.{PassView}
+use Rattle.search_table.specs.declared.view.RoundTerms.{RoundTerms}
+use Rattle.search_table.specs.Lists.{least}
+use Rattle.search_table.specs.Views.{first_view}
+use Rattle.shared_rows.specs.Rows.{RowsState}
+use Rattle.tree_worker.specs.Worker.{Progress, HasPlan, new_worker}
+use Rattle.steal_rounds.specs.declared.member.Member.{Member}
+use Rattle.steal_rounds.specs.declared.gathering.Whole.{Whole}
+use Rattle.steal_rounds.specs.Ends.{end_in}
+use Rattle.steal_rounds.specs.Part.{Beginning, PartState, IsPart}
+use Rattle.steal_rounds.specs.Joined.{AreDealt}
+use Rattle.steal_rounds.specs.Dealt.{all_dealt}
+use Rattle.steal_rounds.specs.Members.{with_workers, AreSeated, IsReady, Went}
+use Rattle.steal_rounds.specs.Whole.{whole_state, no_part, IsShort, IsOfTable, IsSound, joined_views, joined_parts, best_plan, IsWholeOf}
+use Rattle.steal_rounds.specs.Cited.{ArePublished, AreToBeCited, AreFills, IsRowOf}
+use Rattle.steal_rounds.specs.Ended.{result_of, resolved_part, HasEnded}
+use Rattle.steal_rounds.specs.Settled.{Settles, EndsAs}
+use Rattle.steal_rounds.proofs.WiderParts.{begin-part}
+use Rattle.steal_rounds.proofs.ResolvedRounds.{resolved-round}
+use Rattle.steal_rounds.proofs.CitedNotes.{SeesNoMore, StandsForAll, all-worked, tables-stay, workers-many, passes-joined, published-notes, notes-to_cite, live-fills}
+use Rattle.steal_rounds.proofs.CrewParts.{crew_beginning, all-ready, all_progress, progress-pass, progress-live, parts-joined, HasEndedPart, all-ended, plans-short, sound-ended, fronts-of, lives-of, numbers-of, won-made, left-stand, plan-best, some-move}
+
+-- the words of a round begin with its terms
+pub record Begins (terms : Terms) (workers : ℕ) (rows : RowsState) (words : RoundTerms) : Type 0 where
+  pub start : words.start ≡ end_number terms.best
+  pub quota : words.quota ≡ terms.quota
+  pub of_words : words.workers ≡ workers
+  pub of_rows : rows.workers ≡ workers
+  pub cells : rows.cells ≡ terms.quota
+
+-- workers took their seats, each with its nodes, and did their parts
+pub record Ran (P : Project) (table : Table) (records : Records) (terms : Terms) (workers : ℕ) (rows : RowsState) (words : TableId) (round : RoundTerms) (frontier : List WaitingNode) (lists : List (Vec WaitingNode Global)) (before after : List Member) : Type 0 where
+  pub begins : Begins terms workers rows round
+  pub soon : IfSome terms.best (λ end. end ≤ 1290000)
+  pub some : 0 < length frontier
+  pub quota : 0 < terms.quota
+  pub many : length lists ≡ workers
+  pub dealt : AreDealt frontier (all_dealt lists)
+  pub seated : AreSeated words (first_view round) 1 lists before
+  pub went : AllZip (Went P table records rows terms.number) before after
+
+dealt-nodes : (P : Project) (frontier dealt : List WaitingNode) → AreDealt frontier dealt → All (λ w. StandsFor P w.node) frontier → All (λ w. StandsFor P w.node) dealt
+dealt-nodes P frontier dealt d nodes =
+    All-from_In (λ (w : WaitingNode). StandsFor P w.node) dealt (λ w i. In-All (λ (x : WaitingNode). StandsFor P x.node) frontier nodes w (In-from_Contains frontier w (In-All (Contains frontier) dealt d.among w i)))
+
+pub list-many : (lists : Vec (Vec WaitingNode Global) Global) → length lists.items ≡ vec_len lists
+list-many lists = sym (lists.ok.0)
+
+-- before they begin
+pub begin-ready : (P : Project) (terms : Terms) (workers : ℕ) (rows : RowsState) (words : TableId) (round : RoundTerms) (frontier : List WaitingNode) (lists : List (Vec WaitingNode Global)) (ms : List Member) → Begins terms workers rows round →
+    AreDealt frontier (all_dealt lists) → All (λ w. StandsFor P w.node) frontier → AreSeated words (first_view round) 1 lists ms → All (IsReady P words rows) ms
+begin-ready P terms workers rows words round frontier lists ms b dealt nodes seated =
+    let q = b.quota in
+    let c = b.cells in
+    all-ready P rows words (first_view round) 1 lists ms seated (omega arith) (b.of_words ∙ sym b.of_rows) (omega arith) (dealt-nodes P frontier (all_dealt lists) dealt nodes)
+
+pub ran-passes : (P : Project) (table : Table) (records : Records) (terms : Terms) (workers : ℕ) (rows : RowsState) (words : TableId) (round : RoundTerms) (frontier : List WaitingNode) (lists : List (Vec WaitingNode Global)) (before after : List Member) →
+    Ran P table records terms workers rows words round frontier lists before after → Each (IsOfTable words) after
+ran-passes P table records terms workers rows words round frontier lists before after r = tables-stay P table records rows terms.number words (first_view round) 1 lists before after r.seated r.went
+
+ran-ended : (P : Project) (table : Table) (records : Records) (terms : Terms) (workers : ℕ) (rows : RowsState) (words : TableId) (round : RoundTerms) (frontier : List WaitingNode) (lists : List (Vec WaitingNode Global)) (before after : List Member) →
+    Ran P table records terms workers rows words round frontier lists before after → Each (λ n. IsSound n → HasEndedPart P n) after
+ran-ended P table records terms workers rows words round frontier lists before after r =
+    all-ended P table records terms rows words (first_view round) 1 lists before after r.soon r.begins.start r.seated r.went
+
+pub ran-plans : (P : Project) (table : Table) (records : Records) (terms : Terms) (workers : ℕ) (rows : RowsState) (words : TableId) (round : RoundTerms) (frontier : List WaitingNode) (lists : List (Vec WaitingNode Global)) (before after : List Member) →
+    Ran P table records terms workers rows words round frontier lists before after → Each (λ m. IsSound m → IfSome m.worker.plan (IsShort P)) after
+ran-plans P table records terms workers rows words round frontier lists before after r = plans-short P after (ran-ended P table records terms workers rows words round frontier lists before after r)
+
+-- memory was refused to none of them, and what they did was put together, with this view of the first pass
+pub record Gathered (P : Project) (table : Table) (records : Records) (terms : Terms) (workers : ℕ) (rows : RowsState) (words : TableId) (round : RoundTerms) (frontier : List WaitingNode) (lists : List (Vec WaitingNode Global))
+    (before after : List Member) (whole : Whole) (view : PassView) : Type 0 where
+  pub ran : Ran P table records terms workers rows words round frontier lists before after
+  pub sound : Each IsSound after
+  pub whole_is : IsWholeOf P (length table.rows) after whole
+  pub joined : view ≡ joined_views (with_workers workers (first_view round)) after
+
+many-after : (P : Project) (table : Table) (records : Records) (terms : Terms) (workers : ℕ) (rows : RowsState) (words : TableId) (round : RoundTerms) (frontier : List WaitingNode) (lists : List (Vec WaitingNode Global)) (before after : List Member) →
+    Ran P table records terms workers rows words round frontier lists before after → length after ≡ workers
+many-after P table records terms workers rows words round frontier lists before after r = workers-many P table records rows terms.number words (first_view round) 1 lists before after r.seated r.went ∙ r.many
+
+pub gathered-view : (P : Project) (table : Table) (records : Records) (terms : Terms) (workers : ℕ) (rows : RowsState) (words : TableId) (round : RoundTerms) (frontier : List WaitingNode) (lists : List (Vec WaitingNode Global)) (before after : List Member)
+    (whole : Whole) (view : PassView) → Gathered P table records terms workers rows words round frontier lists before after whole view → StandsForAll round view
+gathered-view P table records terms workers rows words round frontier lists before after whole view g =
+    let r = g.ran in
+    passes-joined P rows round workers (first_view round) view after refl (all-worked P table records rows terms.number words (first_view round) 1 lists before after r.seated r.went g.sound)
+    (many-after P table records terms workers rows words round frontier lists before after r) g.joined
+
+-- as the citing of live records wants it
+pub record AreCitable (rows : RowsState) (whole : Whole) : Type 0 where
+  pub published : ArePublished rows whole.made.items whole.published.items
+  pub cited : AreToBeCited rows whole.published.items whole.cited.items
+  pub many : length whole.live.items ≡ length whole.cited.items
+  pub fills : AreFills (length whole.fills.items) whole.live.items
+
+pub gathered-citable : (P : Project) (table : Table) (records : Records) (terms : Terms) (workers : ℕ) (rows : RowsState) (words : TableId) (round : RoundTerms) (frontier : List WaitingNode) (lists : List (Vec WaitingNode Global)) (before after : List Member)
+    (whole : Whole) (view : PassView) → Gathered P table records terms workers rows words round frontier lists before after whole view → SeesNoMore workers view → AreCitable rows whole
+gathered-citable P table records terms workers rows words round frontier lists before after whole view g closed =
+    let r = g.ran in
+    let worked = all-worked P table records rows terms.number words (first_view round) 1 lists before after r.seated r.went g.sound in
+    let ended = sound-ended P after (ran-ended P table records terms workers rows words round frontier lists before after r) g.sound in
+    let fills = live-fills P (length table.rows) after whole (lives-of P after ended) (numbers-of P after ended) g.whole_is in
+    record {
+      published = published-notes P rows (length table.rows) after whole worked (fronts-of P after ended) g.whole_is;
+      cited = notes-to_cite P rows round workers (first_view round) view (length table.rows) after whole refl worked (many-after P table records terms workers rows words round frontier lists before after r) r.begins.of_rows g.whole_is g.joined closed;
+      many = fills.0;
+      fills = fills.1;
+    }
+
+-- The end.
+
+abbrev result_by : List NewRow → List Fill → List WaitingNode → List PlacedRecord → ℕ → Option (List Placing) → RoundResult
+result_by grown fills left made best plan = record { grown = grown; fills = fills; left = left; made = made; best = end_in best; plan = plan; used = length made }
+
+same-result : (s t : PartState) (p q : Option (List Placing)) (best : ℕ) → s.grown ≡ t.grown → s.fills ≡ t.fills → s.left ≡ t.left → s.made ≡ t.made → p ≡ q → result_of s p best ≡ result_of t q best
+same-result s t p q best a b c d e =
+    ap (λ (x : List NewRow). result_by x s.fills s.left s.made best p) a ∙ (ap (λ (x : List Fill). result_by t.grown x s.left s.made best p) b ∙ (ap (λ (x : List WaitingNode). result_by t.grown t.fills x s.made best p) c
+    ∙ (ap (λ (x : List PlacedRecord). result_by t.grown t.fills t.left x best p) d ∙ ap (result_by t.grown t.fills t.left t.made best) e)))
+
+some-dealt : (frontier dealt : List WaitingNode) → AreDealt frontier dealt → 0 < length frontier → 0 < length dealt
+some-dealt frontier dealt d some = let p = d.places (λ q. 1) in let a = ones frontier in let b = ones dealt in omega arith
+  where
+    ones : (ws : List WaitingNode) → total (λ w. 1) ws ≡ length ws
+    ones [] = refl
+    ones (w ∷ ws) = let ih = ones ws in omega arith
+
+weighs-as : (f : WaitingNode → ℕ) (ws : List WaitingNode) → total f ws ≡ sum_by f ws
+weighs-as f [] = refl
+weighs-as f (w ∷ ws) = ap (λ (n : ℕ). f w + n) (weighs-as f ws) ∙ sym (sum_by-cons f w ws)
+
+permuted-dealt : (ws vs : List WaitingNode) → IsPermutation ws vs → AreDealt ws vs
+permuted-dealt ws vs p = record {
+  places = λ h. weighs-as (λ w. h w.place) vs ∙ (sum_by-IsPermutation (λ (w : WaitingNode). h w.place) ws vs p ∙ sym (weighs-as (λ w. h w.place) ws));
+  among = All-permutation (Contains ws) ws vs p (All-from_In (Contains ws) ws (λ w i. Contains-from_In ws w i));
+}
+
+-- what the closed words tell
+pub record Closes (round : RoundTerms) (view : PassView) (best tickets : ℕ) : Type 0 where
+  pub best_is : best ≡ least view.terms.start view.offers
+  pub seen : best ≤ view.least_seen
+  pub won : view.won ≡ min tickets view.terms.quota
+  pub spent : 0 < view.refused → view.won ≡ view.terms.quota
+
+least-start : (start : ℕ) (offers : List ℕ) → least start offers ≤ start
+least-start start [] = omega arith
+least-start start (e ∷ offers) = let ih = least-start start offers in omega arith
+
+pub closed-best : (round : RoundTerms) (view : PassView) (best tickets : ℕ) → Closes round view best tickets → view.terms ≡ round → best ≤ round.start
+closed-best round view best tickets c e =
+    let l = least-start view.terms.start view.offers in
+    let s = ap (λ (t : RoundTerms). t.start) e in
+    let b = c.best_is in
+    omega arith
+
+pub gathered-round : (P : Project) (table : Table) (records : Records) (terms : Terms) (workers : ℕ) (rows : RowsState) (words : TableId) (round : RoundTerms) (frontier : List WaitingNode) (lists : List (Vec WaitingNode Global)) (before after : List Member)
+    (whole settled : Whole) (view : PassView) (best tickets : ℕ) → Gathered P table records terms workers rows words round frontier lists before after whole view → Closes round view best tickets → Settles whole settled →
+    (result : RoundResult) → EndsAs settled best result → IsRoundOn P workers table records frontier terms result
+gathered-round P table records terms workers rows words round frontier lists before after whole settled view best tickets g c k result e =
+    subst (IsRoundOn P workers table records frontier terms)
+    (sym (e.is ∙ same-result (record (whole_state settled) { left = e.left }) (record (resolved_part s k.places) { left = e.left }) settled.plan plan best k.grown k.fills refl k.made (k.plan ∙ g.whole_is.plan)))
+    (resolved-round P workers b frontier e.left at s k.places best plan (record { first = refl; last = refl }) r.dealt part rows_of ordered ended (All-permutation (λ (w : WaitingNode). StandsFor P w.node) s.left e.left order left))
+  where
+    r : Ran P table records terms workers rows words round frontier lists before after
+    r = g.ran
+
+    b : Beginning
+    b = crew_beginning table records terms (all_dealt lists) workers
+
+    first : PassView
+    first = with_workers workers (first_view round)
+
+    at0 : Progress
+    at0 = record { worker = new_worker 0; pass = first }
+
+    at : Progress
+    at = all_progress at0 after
+
+    s : PartState
+    s = whole_state whole
+
+    plan : Option (List Placing)
+    plan = best_plan P None after
+
+    order : IsPermutation s.left e.left
+    order = subst (λ (ws : List WaitingNode). IsPermutation ws e.left) k.left e.same
+
+    ordered : AreDealt s.left e.left
+    ordered = permuted-dealt s.left e.left order
+
+    joined : s ≡ joined_parts (length table.rows) no_part after
+    joined = g.whole_is.lists
+
+    pass : at.pass ≡ view
+    pass = progress-pass at0 after ∙ sym g.joined
+
+    all : Each (HasEndedPart P) after
+    all = sound-ended P after (ran-ended P table records terms workers rows words round frontier lists before after r) g.sound
+
+    start : round.start ≡ end_number terms.best
+    start = r.begins.start
+
+    begun : IsPart P (crew_beginning table records terms [] 0) at0 no_part
+    begun = begin-part P (crew_beginning table records terms [] 0) at0 (record { seen = (let e = start in omega arith); offers = refl; expanded = refl; live = refl })
+
+    whole-part : IsPart P (crew_beginning table records terms (all_dealt lists) (0 + length lists)) at (joined_parts (length table.rows) no_part after)
+    whole-part = parts-joined P table records terms rows words (first_view round) 0 [] lists at0 no_part before after r.soon start r.seated r.went g.sound begun
+
+    part : IsPart P b at s
+    part = subst (IsPart P b at) (sym joined) (subst (λ (n : ℕ). IsPart P (crew_beginning table records terms (all_dealt lists) n) at (joined_parts (length table.rows) no_part after)) (let m = r.many in (let e : 0 + length lists ≡ workers = omega arith in e)) whole-part)
+
+    live : whole.cited.items ≡ at.worker.live
+    live = g.whole_is.cited ∙ sym (progress-live at0 after)
+
+    rows_of : AllZip (IsRowOf s.made) k.places at.worker.live
+    rows_of = subst (AllZip (IsRowOf s.made) k.places) live k.rows
+
+    terms_of : view.terms ≡ round
+    terms_of = (gathered-view P table records terms workers rows words round frontier lists before after whole view g).terms_of
+
+    won : view.won ≡ length s.made
+    won = ap (λ (u : PassView). u.won) g.joined ∙ (won-made P (length table.rows) first no_part after all refl ∙ ap (λ (t : PartState). length t.made) (sym joined))
+
+    moves : 0 < length s.fills + view.refused
+    moves =
+        let m = some-move P table records rows terms.number words (first_view round) first 1 lists no_part before after r.seated r.went g.sound (inl (some-dealt frontier (all_dealt lists) r.dealt r.some)) in
+        let a = ap (λ (t : PartState). length t.fills) joined in
+        let d = ap (λ (u : PassView). u.refused) g.joined in
+        omega arith
+
+    brings : HasPlan P view.offers plan
+    brings = subst (λ (u : PassView). HasPlan P u.offers plan) (sym g.joined) (plan-best P first None after all tt)
+
+    left : All (λ w. StandsFor P w.node) s.left
+    left = subst (λ (t : PartState). All (λ (w : WaitingNode). StandsFor P w.node) t.left) (sym joined) (left-stand P (length table.rows) no_part after all (All-from_In (λ (w : WaitingNode). StandsFor P w.node) [] (λ w i. absurd i)))
+
+    ended : HasEnded P b at s best plan
+    ended =
+        let e = terms_of in
+        let q = ap (λ (t : RoundTerms). t.quota) e in
+        let z = ap (λ (t : RoundTerms). t.start) e in
+        let y = r.begins.quota in
+        let cw = c.won in
+        subst (λ (u : PassView). HasEnded P b (record { worker = at.worker; pass = u }) s best plan) (sym pass) (record {
+          soon = r.soon;
+          moves = moves;
+          won = won;
+          few = omega arith;
+          spent = λ x. let w = c.spent x in omega arith;
+          some = r.quota;
+          best_is = c.best_is ∙ ap (λ (n : ℕ). least n view.offers) (z ∙ start);
+          seen = c.seen;
+          brings = brings;
+        })

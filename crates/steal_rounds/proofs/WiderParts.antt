@@ -1,0 +1,215 @@
+-- A part as one of more workers, and a part whose nodes were dealt, or are left, in another order.
+use Rattle.std.proofs.Common.{◌≡◌, ℕ, ◌<◌, ◌≤◌, inl, inr, refl, sym, ap, subst, ◌∙◌, arith, List, [], ◌∷◌, ◌++◌, append-nil, length, map, All}
+use Rattle.std.specs.Prelude.{Contains, slice_index, slice_index_or}
+use Rattle.std.specs.List.{AllZip}
+use Rattle.std.proofs.lemmas.List.Elements.{All-nil, All-weaker}
+use Rattle.rcpsp_model.specs.declared.parts.Entry.{Entry}
+use Rattle.rcpsp_model.specs.Project.{Project}
+use Rattle.rcpsp_model.specs.Dominance.{Dominates}
+use Rattle.rcpsp_model.proofs.Lists.{In, In-All, In-from_Contains}
+use Rattle.rcpsp_model.proofs.Choices.{In-map, map-In}
+use Rattle.precedence_tree.specs.declared.base.Base.{Base}
+use Rattle.cutset_store.specs.Index.{fronts_of}
+use Rattle.search_log.specs.declared.row.Origin.{Origin}
+use Rattle.search_log.specs.declared.row.Row.{Row}
+use Rattle.search_log.specs.Weights.{total, Each}
+use Rattle.search_log.specs.Stands.{TreeNode, searching, Waiting, IsAtPlace, Stands, Grows}
+use Rattle.search_log.specs.Lean.{end_number}
+use Rattle.search_log.proofs.Sums.{total-map, Each-In, Each-from_In, Each-weaker}
+use Rattle.search_log.proofs.ToldLogs.{expanded-inside}
+use Rattle.search_rounds.specs.declared.round.NewRow.{NewRow}
+use Rattle.search_rounds.specs.declared.round.WaitingNode.{WaitingNode}
+use Rattle.search_rounds.specs.declared.round.Records.{Records}
+use Rattle.search_rounds.specs.declared.round.Terms.{Terms}
+use Rattle.search_rounds.specs.Round.{waits_at, waiting_of, IsRecordOf, AreRecords}
+use Rattle.tree_worker.specs.Worker.{Progress}
+use Rattle.steal_rounds.specs.Ends.{end_in}
+use Rattle.steal_rounds.specs.Part.{Beginning, BeginsOn, IsByOneOf, PartState, Event, IsEventOf, IsCitedIn, by_earlier, by_own, IsMadeIn, IsCitedLive, IsOffered, IsNewRow, IsPartAt, IsPart}
+use Rattle.steal_rounds.specs.Joined.{AreDealt}
+use Rattle.steal_rounds.proofs.PartLaws.{BeginLaw}
+
+-- the second beginning is of the same round, and of the workers of the first and maybe more
+pub record IsWider (b c : Beginning) : Type 0 where
+  pub records : c.records ≡ b.records
+  pub terms : c.terms ≡ b.terms
+  pub from : c.first_worker ≤ b.first_worker
+  pub to : b.last_worker ≤ c.last_worker
+
+by-wider : (b c : Beginning) (o : Origin) → IsWider b c → IsByOneOf b o → IsByOneOf c o
+by-wider b c o w is =
+    let a = w.from in
+    let z = w.to in
+    let x = is.from in
+    let y = is.to in
+    record { from = omega arith; to = omega arith }
+
+pub new-wider : (b c : Beginning) → IsWider b c → (n : NewRow) → IsNewRow b n → IsNewRow c n
+new-wider b c w n is = record { says = is.says; round = is.round ∙ ap (λ (t : Terms). t.number) (sym w.terms); worker = by-wider b c n.origin w is.worker }
+
+pub event-wider : (P : Project) (b c : Beginning) (best less : ℕ) → IsWider b c → less ≤ best → (e : Event) → IsEventOf P b best e → IsEventOf P c less e
+event-wider P b c best less w l e is = record {
+  round = is.round ∙ ap (λ (t : Terms). t.number) (sym w.terms);
+  worker = by-wider b c e.fill.origin w is.worker;
+  leaf = λ s. let end = is.leaf s in omega arith;
+  early = λ x n low. let low_ = is.early x n low in let same = ap (λ (t : Terms). end_number t.best) w.terms in omega arith;
+  new = λ x. subst (λ (r : Records). All (λ (base : Base). Dominates P base.front e.front → ⊥) r.index) (sym w.records) (is.new x);
+}
+
+pub cited-wider : (P : Project) (b c : Beginning) (events all : List Event) (q : ℕ) (F : List Entry) → IsWider b c → ((e : Event) → Contains events e → Contains all e) → IsCitedIn P b events q F → IsCitedIn P c all q F
+cited-wider P b c events all q F w more (by_earlier i l e d) =
+    by_earlier i (subst (λ (r : Records). i < length r.places) (sym w.records) l) (e ∙ ap (λ (r : Records). slice_index r.places i) (sym w.records))
+    (subst (λ (r : Records). Dominates P (slice_index_or (fronts_of r.index) i []) F) (sym w.records) d)
+cited-wider P b c events all q F w more (by_own e k x same d) = by_own e (more e k) x same d
+
+pub offered-wider : (P : Project) (b c : Beginning) (events all : List Event) → IsWider b c → ((e : Event) → Contains events e → Contains all e) → (n : ℕ) → IsOffered P b events n → IsOffered P c all n
+offered-wider P b c events all w more n is =
+    let same = ap (λ (t : Terms). end_number t.best) w.terms in
+    let less = is.less in
+    record { event = is.event; among = more is.event is.among; leaf = is.leaf; is = is.is; less = omega arith; soon = is.soon }
+
+pub made-wider : (P : Project) (events all : List Event) → ((e : Event) → Contains events e → Contains all e) → (m : _) → IsMadeIn P events m → IsMadeIn P all m
+made-wider P events all more m is = record { event = is.event; among = more is.event is.among; is = is.is }
+
+-- Other orders.
+
+pub in_order-places : (nodes ordered : List WaitingNode) → AreDealt nodes ordered → (h : ℕ → ℕ) → total (λ w. h w.place) (waiting_of ordered) ≡ total (λ w. h w.place) (waiting_of nodes)
+in_order-places nodes ordered o h =
+    let a = total-map (λ (w : Waiting). h w.place) waits_at ordered in
+    let b = total-map (λ (w : Waiting). h w.place) waits_at nodes in
+    let c = o.places h in
+    omega arith
+
+pub in_order-each : (Q : Waiting → Type 0) (nodes ordered : List WaitingNode) → AreDealt nodes ordered → Each Q (waiting_of nodes) → Each Q (waiting_of ordered)
+in_order-each Q nodes ordered o a = Each-from_In Q (waiting_of ordered) one
+  where
+    one : (w : Waiting) → In (waiting_of ordered) w → Q w
+    one w i =
+        let n = map-In waits_at ordered w i in
+        let c = In-All (Contains nodes) ordered o.among n.0 n.1 in
+        subst Q n.2 (Each-In Q (waiting_of nodes) (waits_at n.0) a (In-map waits_at nodes n.0 (In-from_Contains nodes n.0 c)))
+
+-- The table at the end of a round.
+
+record-inside : (P : Project) (T : List Row) (ns : List TreeNode) (places : List ℕ) (bases : List Base) → AllZip (IsRecordOf P T ns) places bases → Each (λ q. q < length T) places
+record-inside P T ns [] bases z = tt
+record-inside P T ns (q ∷ places) [] z = absurd z
+record-inside P T ns (q ∷ places) (base ∷ bases) z = (expanded-inside T q z.0.expanded, record-inside P T ns places bases z.1)
+
+pub begins-on : (P : Project) (b : Beginning) (ns : List TreeNode) → Stands P (searching b.terms.best) b.table.rows ns [] (waiting_of b.dealt) → AreRecords P b.table.rows ns b.records → BeginsOn b ns
+begins-on P b ns st ar = record { size = st.size; dealt = st.each_waiting; records = record-inside P b.table.rows ns b.records.places b.records.index ar.each }
+
+in_order-wider : (b : Beginning) (frontier : List WaitingNode) → IsWider b (record b { dealt = frontier })
+in_order-wider b frontier = record { records = refl; terms = refl; from = omega arith; to = omega arith }
+
+in_order-at : (P : Project) (b : Beginning) (ns : List TreeNode) (frontier left : List WaitingNode) (at : Progress) (s : PartState) → AreDealt frontier b.dealt → AreDealt s.left left → IsPartAt P b ns at s →
+    IsPartAt P (record b { dealt = frontier }) ns at (record s { left = left })
+in_order-at P b ns frontier left at s dealt others is =
+    let c : Beginning = record b { dealt = frontier } in
+    let w = in_order-wider b frontier in
+    let all : (e : Event) → Contains is.events e → Contains is.events e = λ e k. k in
+    record {
+      more = is.more;
+      events = is.events;
+      fills = is.fills;
+      grows = record {
+        size = is.grows.size;
+        account = is.grows.account;
+        waits = λ h.
+            let x = is.grows.waits h in
+            let y = in_order-places frontier b.dealt dealt h in
+            let z = in_order-places s.left left others h in
+            omega arith;
+        rows = is.grows.rows;
+        each_fill = is.grows.each_fill;
+        each_left = in_order-each (IsAtPlace (ns ++ is.more)) s.left left others is.grows.each_left;
+      };
+      at_nodes = is.at_nodes;
+      each = Each-weaker (IsEventOf P b at.pass.least_seen) (IsEventOf P c at.pass.least_seen) is.events (event-wider P b c at.pass.least_seen at.pass.least_seen w (omega arith)) is.each;
+      turns = is.turns;
+      cites = λ i q e k says. elim (is.cites i q e k says) [ inl x ↦ inl (cited-wider P b c is.events is.events q e.front w all x) | inr x ↦ inr x ];
+      live = is.live;
+      made = is.made;
+      made_all = is.made_all;
+      offered = All-weaker (IsOffered P b is.events) (IsOffered P c is.events) (offered-wider P b c is.events is.events w all) at.pass.offers is.offered;
+    }
+
+-- a part of nodes that were dealt in some order is one of those of the frontier, and what it left may be handed on in another
+pub in_order-part : (P : Project) (b : Beginning) (frontier left : List WaitingNode) (at : Progress) (s : PartState) → AreDealt frontier b.dealt → AreDealt s.left left → IsPart P b at s →
+    IsPart P (record b { dealt = frontier }) at (record s { left = left })
+in_order-part P b frontier left at s dealt others is = record {
+  falls = is.falls;
+  rows = Each-weaker (IsNewRow b) (IsNewRow (record b { dealt = frontier })) s.grown (new-wider b (record b { dealt = frontier }) (in_order-wider b frontier)) is.rows;
+  fronts = is.fronts;
+  expanded = is.expanded;
+  at_tree = λ ns k.
+      in_order-at P b ns frontier left at s dealt others (is.at_tree ns (record { size = k.size; dealt = in_order-each (IsAtPlace ns) frontier b.dealt dealt k.dealt; records = k.records }));
+}
+
+-- The start of a part.
+
+-- what was dealt waits
+pub begin-part : BeginLaw
+begin-part P b at fresh = record {
+  falls = fresh.seen;
+  rows = tt;
+  fronts = sym (ap fronts_of fresh.expanded);
+  expanded = refl;
+  at_tree = λ ns k. record {
+    more = [];
+    events = [];
+    fills = refl;
+    grows = record {
+      size = refl;
+      account = λ h. refl;
+      waits = λ h. omega arith;
+      rows = λ i l. absurd (omega arith);
+      each_fill = tt;
+      each_left = subst (λ (n : List TreeNode). Each (IsAtPlace n) (waiting_of b.dealt)) (sym (append-nil ns)) k.dealt;
+    };
+    at_nodes = tt;
+    each = tt;
+    turns = record {
+      few = λ e c. absurd (In-from_Contains [] e c);
+      one = λ e f c d. absurd (In-from_Contains [] e c);
+      own = λ e f c d. absurd (In-from_Contains [] e c);
+      before = λ e f x c d. absurd (In-from_Contains [] e c);
+    };
+    cites = λ i q e is. absurd cc;
+    live = subst (AllZip (IsCitedLive P []) []) (sym fresh.live) tt;
+    made = All-nil (IsMadeIn P []);
+    made_all = λ e c. absurd (In-from_Contains [] e c);
+    offered = subst (All (IsOffered P b [])) (sym fresh.offers) (All-nil (IsOffered P b []));
+  };
+}
+
+-- A part tells nothing of a pass but the least best that it saw and what it offered, and nothing of a worker but what it expanded
+-- and what it cited live.
+
+-- the same in these
+pub record IsAlike (at now : Progress) : Type 0 where
+  pub seen : at.pass.least_seen ≡ now.pass.least_seen
+  pub offers : at.pass.offers ≡ now.pass.offers
+  pub expanded : at.worker.expanded ≡ now.worker.expanded
+  pub live : at.worker.live ≡ now.worker.live
+
+alike-at : (P : Project) (b : Beginning) (ns : List TreeNode) (at now : Progress) (s : PartState) → IsAlike at now → IsPartAt P b ns at s → IsPartAt P b ns now s
+alike-at P b ns at now s a is = record {
+  more = is.more;
+  events = is.events;
+  fills = is.fills;
+  grows = subst (λ (n : ℕ). Grows P (searching (end_in n)) b.table.rows ns (waiting_of b.dealt) (map (λ m. m.row) s.grown) is.more s.fills (waiting_of s.left)) a.seen is.grows;
+  at_nodes = is.at_nodes;
+  each = subst (λ (n : ℕ). Each (IsEventOf P b n) is.events) a.seen is.each;
+  turns = is.turns;
+  cites = is.cites;
+  live = subst (AllZip (IsCitedLive P is.events) s.live) a.live is.live;
+  made = is.made;
+  made_all = is.made_all;
+  offered = subst (All (IsOffered P b is.events)) a.offers is.offered;
+}
+
+pub alike-part : (P : Project) (b : Beginning) (at now : Progress) (s : PartState) → IsAlike at now → IsPart P b at s → IsPart P b now s
+alike-part P b at now s a is =
+    let seen = a.seen in
+    let falls = is.falls in
+    record { falls = omega arith; rows = is.rows; fronts = is.fronts ∙ ap fronts_of a.expanded; expanded = is.expanded; at_tree = λ ns k. alike-at P b ns at now s a (is.at_tree ns k) }

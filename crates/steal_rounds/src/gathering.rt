@@ -1,0 +1,306 @@
+// What the workers of a round did, put together.
+ghost use Rattle.std.specs.Prelude.{◌≡◌, ◌+◌, ◌++◌, nat_lt, map, length, IfOk, OnOk, IfSome};
+ghost use Rattle.rcpsp_model.specs.Schedule.{end_of, entries};
+ghost use Rattle.search_log.specs.Weights.{Each};
+ghost use Rattle.search_table.specs.Views.{joint_view};
+ghost use Rattle.steal_rounds.specs.Joined.{moved, moved_fate, moved_fill, moved_record, moved_waiting, joined_part};
+ghost use Rattle.steal_rounds.specs.Part.{part_state};
+ghost use Rattle.steal_rounds.specs.Whole.{by_worker, whole_state, better_plan, IsShort, IsOfTable, IsSound, AddsMember, joined_views, IsWholeOf};
+
+use crate::member::Member;
+use crate::part::Part;
+use crate::source::NodeSource;
+use cutset_store::CutRecord;
+use project_net::{Project, Schedule};
+use sched_base::{List, NoMemory};
+use search_log::{Fill, RowFate};
+use search_rounds::{NewRow, PlacedRecord, WaitingNode};
+use search_table::{Pass, RoundTable};
+use shared_rows::Note;
+use std::alloc::Global;
+use std::collections::VecDeque;
+use tree_worker::LiveNote;
+
+/// A record that a worker published.
+#[derive(Drop)]
+pub(crate) struct Shown {
+    /// The number of the worker.
+    pub worker: u32,
+    /// The worker's own note of it.
+    pub note: Note<CutRecord>,
+}
+
+/// What a worker published.
+#[derive(Drop)]
+pub(crate) struct Published {
+    /// The number, from 0, of its first record among all that were made.
+    pub first: usize,
+    /// Its records, in order.
+    pub shown: Vec<Shown>,
+}
+
+/// The parts of workers, joined one after another: the new rows of each come behind those of the workers before it.
+#[derive(Drop)]
+pub(crate) struct Whole {
+    pub grown: Vec<NewRow>,
+    pub fills: Vec<Fill>,
+    /// The numbers, from 0, of the fills that cite a live record.
+    pub live: Vec<u32>,
+    pub made: Vec<PlacedRecord>,
+    pub left: Vec<WaitingNode>,
+    /// The live records that are cited, in the order of their fills.
+    pub cited: Vec<LiveNote>,
+    /// What each worker published, the first worker first.
+    pub published: Vec<Published>,
+    /// The schedule that ends first, that of the lowest worker among equals.
+    pub plan: Option<Schedule>,
+}
+
+// A count as a number of 32 bits; there is no room for more.
+fn number_of(count: usize) -> Result<u32, NoMemory>
+    ensures { IfOk result (λ number. number ≡ count) }
+{
+    if count > u32::MAX as usize {
+        return Err(NoMemory);
+    }
+    Ok(count as u32)
+}
+
+// Where a place lies once so many new rows stand before those of its worker, on a table of so many rows.
+fn moved_place(table: u32, grown: u32, place: u32) -> Result<u32, NoMemory>
+    ensures { IfOk result (λ p. p ≡ moved table grown place) }
+{
+    if place < table {
+        return Ok(place);
+    }
+    match place.checked_add(grown) {
+        Some(moved) => Ok(moved),
+        None => Err(NoMemory),
+    }
+}
+
+fn moved_row_fate(table: u32, grown: u32, fate: RowFate) -> Result<RowFate, NoMemory>
+    ensures { IfOk result (λ f. f ≡ moved_fate table grown fate) }
+{
+    match fate {
+        RowFate::Expanded { count, first } => {
+            let first = moved_place(table, grown, first)?;
+            Ok(RowFate::Expanded { count, first })
+        }
+        RowFate::Cited(place) => {
+            let place = moved_place(table, grown, place)?;
+            Ok(RowFate::Cited(place))
+        }
+        fate => Ok(fate),
+    }
+}
+
+fn add_rows(rows: &mut Vec<NewRow>, more: &[NewRow]) -> Result<(), NoMemory>
+    ensures { OnOk result (rows.new.items ≡ rows.old.items ++ more.now) }
+{
+    rows.extend_from_slice(more)?;
+    Ok(())
+}
+
+fn add_fills(fills: &mut Vec<Fill>, table: u32, grown: u32, more: &[Fill]) -> Result<(), NoMemory>
+    ensures { OnOk result (fills.new.items ≡ fills.old.items ++ map (moved_fill table grown) more.now) }
+{
+    for fill in more {
+        let place = moved_place(table, grown, fill.place)?;
+        let fate = moved_row_fate(table, grown, fill.fate)?;
+        fills.push(Fill {
+            place,
+            fate,
+            origin: fill.origin,
+        })?;
+    }
+    Ok(())
+}
+
+fn add_live(live: &mut Vec<u32>, before: u32, more: &[u32]) -> Result<(), NoMemory>
+    ensures { OnOk result (live.new.items ≡ live.old.items ++ map (λ i. before + i) more.now) }
+{
+    for number in more {
+        match before.checked_add(*number) {
+            Some(number) => live.push(number)?,
+            None => return Err(NoMemory),
+        }
+    }
+    Ok(())
+}
+
+fn add_made(
+    made: &mut Vec<PlacedRecord>,
+    table: u32,
+    grown: u32,
+    more: Vec<PlacedRecord>,
+) -> Result<(), NoMemory>
+    ensures { OnOk result (made.new.items ≡ made.old.items ++ map (moved_record table grown) more.items) }
+{
+    let mut more = VecDeque::from(more);
+    while let Some(PlacedRecord { place, known }) = more.pop_front() {
+        let place = moved_place(table, grown, place)?;
+        made.push(PlacedRecord { place, known })?;
+    }
+    Ok(())
+}
+
+fn add_left(
+    alloc: Global,
+    left: &mut Vec<WaitingNode>,
+    table: u32,
+    grown: u32,
+    source: NodeSource,
+) -> Result<(), NoMemory>
+    ensures { OnOk result (left.new.items ≡ left.old.items ++ map (moved_waiting table grown) source) }
+{
+    let mut more = VecDeque::from(source.into_left(alloc)?.into_vec());
+    while let Some(WaitingNode { place, node }) = more.pop_front() {
+        let place = moved_place(table, grown, place)?;
+        left.push(WaitingNode { place, node })?;
+    }
+    Ok(())
+}
+
+// Joins a part, on a table of so many rows.
+fn add_part(alloc: Global, whole: &mut Whole, table: u32, part: Part) -> Result<(), NoMemory>
+    ensures lists { OnOk result (whole_state whole.new ≡ joined_part table (whole_state whole.old) (part_state part)) }
+    ensures cited { whole.new.cited ≡ whole.old.cited }
+    ensures published { whole.new.published ≡ whole.old.published }
+    ensures plan { whole.new.plan ≡ whole.old.plan }
+{
+    let Part {
+        grown,
+        fills,
+        live,
+        made,
+        source,
+    } = part;
+    let before = number_of(whole.fills.as_slice().len())?;
+    let rows = number_of(whole.grown.as_slice().len())?;
+    add_fills(&mut whole.fills, table, rows, fills.as_slice())?;
+    add_live(&mut whole.live, before, live.as_slice())?;
+    add_made(&mut whole.made, table, rows, made)?;
+    add_left(alloc, &mut whole.left, table, rows, source)?;
+    add_rows(&mut whole.grown, grown.as_slice())
+}
+
+// Whether a schedule ends before another.
+#[tactic(auto, using(crate::proofs::ShortPlans::short_starts))]
+fn ends_before(project: &Project, schedule: &Schedule, other: &Schedule) -> bool
+    requires schedule { IsShort project.now schedule.now }
+    requires other { IsShort project.now other.now }
+    ensures { result ≡ nat_lt (end_of project.now (entries schedule.now)) (end_of project.now (entries other.now)) }
+{
+    project.end(schedule) < project.end(other)
+}
+
+// The schedule that ends earlier, and the first one of two that end together.
+fn better(project: &Project, plan: Option<Schedule>, other: Option<Schedule>) -> Option<Schedule>
+    requires plan { IfSome plan (IsShort project.now) }
+    requires other { IfSome other (IsShort project.now) }
+    ensures { result ≡ better_plan project.now plan other }
+{
+    match (plan, other) {
+        (Some(plan), Some(other)) => {
+            if ends_before(project, &other, &plan) {
+                Some(other)
+            } else {
+                Some(plan)
+            }
+        }
+        (Some(plan), None) => Some(plan),
+        (None, other) => other,
+    }
+}
+
+// The notes of a worker.
+fn shown_by(
+    alloc: Global,
+    worker: u32,
+    notes: List<Note<CutRecord>>,
+) -> Result<Vec<Shown>, NoMemory>
+    ensures { IfOk result (λ shown. shown.items ≡ map (by_worker worker) notes) }
+{
+    let mut shown = Vec::with_capacity(alloc, notes.len())?;
+    let mut notes = VecDeque::from(notes.into_vec());
+    'notes: while let Some(note) = notes.pop_front() {
+        shown.push(Shown { worker, note })?;
+    }
+    Ok(shown)
+}
+
+// Joins what a worker did, and its pass.
+fn add_member(
+    alloc: Global,
+    project: &Project,
+    table: u32,
+    words: &RoundTable,
+    first: &mut Pass,
+    whole: &mut Whole,
+    member: Member,
+) -> Result<(), NoMemory>
+    requires table { first.old.table ≡ words.now }
+    requires pass { member.pass.table ≡ words.now }
+    requires plan { IfSome whole.old.plan (IsShort project.now) }
+    requires other { IsSound member → IfSome member.worker.plan (IsShort project.now) }
+    ensures table { first.new.table ≡ first.old.table }
+    ensures view { first.new.view ≡ joint_view first.old.view member.pass.view }
+    ensures sound { OnOk result (IsSound member) }
+    ensures joined { OnOk result (AddsMember project.now table member whole.old whole.new) }
+{
+    let Member {
+        worker,
+        pass,
+        part,
+        failed,
+    } = member;
+    let number = pass.number();
+    words.join(first, pass);
+    if failed {
+        return Err(NoMemory);
+    }
+    let made = whole.made.as_slice().len();
+    add_part(alloc, whole, table, part)?;
+    let parts = worker.into_parts();
+    let shown = shown_by(alloc, number, parts.own)?;
+    whole.published.push(Published { first: made, shown })?;
+    let mut live = parts.live.into_vec();
+    whole.cited.append(&mut live)?;
+    whole.plan = better(project, whole.plan.take(), parts.plan);
+    Ok(())
+}
+
+/// Puts together what workers did on a table of so many rows, and joins their passes into the first one.
+pub(crate) fn gather(
+    alloc: Global,
+    project: &Project,
+    table: u32,
+    words: &RoundTable,
+    first: &mut Pass,
+    members: Vec<Member>,
+) -> Result<Whole, NoMemory>
+    requires table { first.old.table ≡ words.now }
+    requires passes { Each (IsOfTable words.now) members.items }
+    requires plans { Each (λ m. IsSound m → IfSome m.worker.plan (IsShort project.now)) members.items }
+    ensures table { first.new.table ≡ first.old.table }
+    ensures view { IfOk result (λ whole. first.new.view ≡ joined_views first.old.view members.items) }
+    ensures sound { IfOk result (λ whole. Each IsSound members.items) }
+    ensures whole { IfOk result (IsWholeOf project.now table members.items) }
+{
+    let mut whole = Whole {
+        grown: Vec::new(alloc),
+        fills: Vec::new(alloc),
+        live: Vec::new(alloc),
+        made: Vec::new(alloc),
+        left: Vec::new(alloc),
+        cited: Vec::new(alloc),
+        published: Vec::new(alloc),
+        plan: None,
+    };
+    let mut members = VecDeque::from(members);
+    while let Some(member) = members.pop_front() {
+        add_member(alloc, project, table, words, first, &mut whole, member)?;
+    }
+    Ok(whole)
+}
