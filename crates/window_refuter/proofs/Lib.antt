@@ -1,0 +1,17 @@
+pub mod Judgements
+pub mod ReadLines
+pub mod Bounded
+pub mod AtRest
+pub mod StartTimes
+pub mod DueSums
+pub mod Narrowed
+pub mod Extended
+pub mod Inside
+pub mod FirstWindows
+pub mod RefuteSteps
+pub mod Within
+pub mod Refuted
+pub mod SoundSteps
+pub mod Supplies
+pub mod WindowLimits
+pub mod LeastRequests

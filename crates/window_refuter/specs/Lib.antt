@@ -1,0 +1,11 @@
+pub mod Windows
+pub mod Steps
+pub mod Narrowing
+pub mod Supply
+pub mod Candidates
+pub mod Propagation
+pub mod Dues
+pub mod Refuted
+pub mod Text
+pub mod Reading
+pub mod Laws
