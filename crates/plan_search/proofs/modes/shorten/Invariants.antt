@@ -1,0 +1,5 @@
+use Rattle.project_net.specs.Feasible.{IsPlaced}
+use Rattle.plan_search.proofs.modes.shorten.Given as goal
+
+abbrev pub invariant-changes : goal.invariant-changes
+invariant-changes l = IsPlaced l.project l.places
