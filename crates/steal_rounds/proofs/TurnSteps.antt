@@ -13,6 +13,7 @@ use Rattle.rcpsp_model.proofs.Lists.{In, In-All, In-from_Contains, Contains-from
 use Rattle.rcpsp_model.proofs.Choices.{In-map}
 use Rattle.rcpsp_model.proofs.Fronts.{front-end}
 use Rattle.precedence_tree.specs.declared.base.Base.{Base}
+use Rattle.precedence_tree.specs.Base.{IsBaseOf}
 use Rattle.precedence_tree.specs.Node.{NodeState, StandsFor}
 use Rattle.precedence_tree.specs.Children.{child_fronts}
 use Rattle.cutset_store.specs.Index.{fronts_of}
@@ -205,12 +206,12 @@ own-new P F made expanded e same none h d =
     In-All (λ (A : List Entry). Dominates P A F → ⊥) (fronts_of expanded) none e.front j d
 
 -- what an expansion gives
-pub record Expanding (P : Project) (earlier : List Base) (best : ℕ) (node : NodeState) (at now : Progress) (kids : List (Child NodeState)) : Type 0 where
+pub record Expanding (P : Project) (earlier : List Base) (best : ℕ) (node : NodeState) (at now : Progress) (kids : List (Child NodeState)) (base : Base) : Type 0 where
   pub inner : IsLeaf P node.front → ⊥
   pub is_open : IsOpen P (fronts_of earlier) (fronts_of at.worker.expanded) best node.front
   pub are : AreChildren P node.front (child_fronts kids)
-  pub base : Base
   pub front : base.front ≡ node.front
+  pub known : IsBaseOf P base
   pub kept : now.worker.expanded ≡ at.worker.expanded ++ base ∷ []
   pub offers : now.pass.offers ≡ at.pass.offers
   pub live : now.worker.live ≡ at.worker.live
@@ -277,18 +278,18 @@ expansion-grows P b origin w at now s kids first inner z base small falls ns siz
 expanded_first : (a b c d : ℕ) → row_expanded a b ≡ row_expanded c d → a ≡ c
 expanded_first a b c d e = cc
 
-expanded-at : (P : Project) (best : ℕ) (b : Beginning) (origin : Origin) (w : WaitingNode) (at now : Progress) (s t : PartState) (kids : List (Child NodeState)) (first : ℕ) → best ≤ at.pass.least_seen → now.pass.least_seen ≤ best →
-    origin.turn ≡ length s.fills + 1 → origin.round ≡ b.terms.number → IsByOneOf b origin → first ≡ length b.table.rows + length s.grown → Expanding P b.records.index best w.node at now kids →
-    (x : ExpandsAs P w.place w.node kids first origin s t) → at.pass.least_seen ≤ end_number b.terms.best → IfSome b.terms.best (λ end. end ≤ 1290000) →
+expanded-at : (P : Project) (best : ℕ) (b : Beginning) (origin : Origin) (w : WaitingNode) (at now : Progress) (s : PartState) (kids : List (Child NodeState)) (known : Base) (first : ℕ) → best ≤ at.pass.least_seen → now.pass.least_seen ≤ best →
+    origin.turn ≡ length s.fills + 1 → origin.round ≡ b.terms.number → IsByOneOf b origin → first ≡ length b.table.rows + length s.grown → Expanding P b.records.index best w.node at now kids known →
+    at.pass.least_seen ≤ end_number b.terms.best → IfSome b.terms.best (λ end. end ≤ 1290000) →
     map (λ m. m.known.front) s.made ≡ fronts_of at.worker.expanded → (ns : List TreeNode) → length ns ≡ length b.table.rows → IsPartAt P b ns at (waits_part s w) →
-    IsPartAt P b ns now (part_by (s.grown ++ map (new_row origin) kids) (s.fills ++ expansion_fill w kids first origin ∷ []) s.live (s.made ++ record { place = w.place; known = x.base } ∷ []) (placed_from first kids ++ s.left))
-expanded-at P best b origin w at now s t kids first low falls turn round worker base e x start soon fronts ns size old =
+    IsPartAt P b ns now (part_by (s.grown ++ map (new_row origin) kids) (s.fills ++ expansion_fill w kids first origin ∷ []) s.live (s.made ++ record { place = w.place; known = known } ∷ []) (placed_from first kids ++ s.left))
+expanded-at P best b origin w at now s kids known first low falls turn round worker base e start soon fronts ns size old =
     let F = w.node.front in
     let z = AreKids-from P F (choices P F) kids e.are in
     let most = kid_nodes F (choices P F) kids in
     let f = expansion_fill w kids first origin in
     let v : Event = record { fill = f; front = F } in
-    let m : PlacedRecord = record { place = w.place; known = x.base } in
+    let m : PlacedRecord = record { place = w.place; known = known } in
     let expansion : IsExpansion v = record { first = first; count = length kids; is = refl } in
     let small = end-small b.terms.best soon in
     let front : place_front (ns ++ old.more) w.place ≡ Some F = old.grows.each_left.0 in
@@ -319,19 +320,19 @@ expanded-at P best b origin w at now s t kids first low falls turn round worker 
     ] in
     omega arith)
     (λ q says. absurd cc) (λ i k. k) (subst (AllZip (IsCitedLive P (old.events ++ v ∷ [])) s.live) (sym e.live) (live-more P old.events v s.live at.worker.live old.live))
-    (All-push (IsMadeIn P (old.events ++ v ∷ [])) s.made m (made-more P old.events v s.made old.made) (record { event = v; among = new-event old.events v; is = record { expansion = expansion; place = refl; front = x.front; known = x.known } }))
+    (All-push (IsMadeIn P (old.events ++ v ∷ [])) s.made m (made-more P old.events v s.made old.made) (record { event = v; among = new-event old.events v; is = record { expansion = expansion; place = refl; front = e.front; known = e.known } }))
     (λ g i u. elim (pushed old.events v g i) [
       | inl k ↦ has-more s.made m g (old.made_all g k u)
-      | inr here ↦ subst (HasRecord (s.made ++ m ∷ [])) here (record { made_record = m; among = Contains-right s.made (m ∷ []) m (Contains-from_In (m ∷ []) m (inl refl)); place = refl; front = x.front })
+      | inr here ↦ subst (HasRecord (s.made ++ m ∷ [])) here (record { made_record = m; among = Contains-right s.made (m ∷ []) m (Contains-from_In (m ∷ []) m (inl refl)); place = refl; front = e.front })
     ])
     (subst (All (IsOffered P b (old.events ++ v ∷ []))) (sym e.offers) (offered-more P b old.events v at.pass.offers old.offered))
 
-pub expanded-keeps : (P : Project) (best : ℕ) (table : Table) (records : Records) (origin : Origin) (w : WaitingNode) (at now : Progress) (s t : PartState) (kids : List (Child NodeState)) (first : ℕ) → best ≤ at.pass.least_seen →
-    now.pass.least_seen ≤ best → origin.turn ≡ length s.fills + 1 → first ≡ length table.rows + length s.grown → Expanding P records.index best w.node at now kids → ExpandsAs P w.place w.node kids first origin s t →
+pub expanded-keeps : (P : Project) (best : ℕ) (table : Table) (records : Records) (origin : Origin) (w : WaitingNode) (at now : Progress) (s t : PartState) (kids : List (Child NodeState)) (known : Base) (first : ℕ) → best ≤ at.pass.least_seen →
+    now.pass.least_seen ≤ best → origin.turn ≡ length s.fills + 1 → first ≡ length table.rows + length s.grown → Expanding P records.index best w.node at now kids known → ExpandsAs w.place known kids first origin s t →
     KeepsPart P table records origin (record { at = at; part = waits_part s w }) (record { at = now; part = t })
-expanded-keeps P best table records origin w at now s t kids first low falls turn base e x dealt terms number soon old =
+expanded-keeps P best table records origin w at now s t kids known first low falls turn base e x dealt terms number soon old =
     let b = beginning table records origin.worker dealt terms in
-    let m : PlacedRecord = record { place = w.place; known = x.base } in
+    let m : PlacedRecord = record { place = w.place; known = known } in
     let f = expansion_fill w kids first origin in
     let start = old.falls in
     let u : PartState = part_by (s.grown ++ map (new_row origin) kids) (s.fills ++ f ∷ []) s.live (s.made ++ m ∷ []) (placed_from first kids ++ s.left) in
@@ -340,9 +341,8 @@ expanded-keeps P best table records origin w at now s t kids first low falls tur
       rows = Each-append (IsNewRow b) s.grown (map (new_row origin) kids) old.rows (kid-new b origin kids (sym number) (record { from = omega arith; to = omega arith }));
       fronts =
           map-append (λ (y : PlacedRecord). y.known.front) s.made (m ∷ [])
-          ∙ (ap (λ (fs : List (List Entry)). fs ++ x.base.front ∷ []) old.fronts
-          ∙ (ap (λ (F : List Entry). fronts_of at.worker.expanded ++ F ∷ []) (x.front ∙ sym e.front)
-          ∙ (sym (map-append (λ (y : Base). y.front) at.worker.expanded (e.base ∷ [])) ∙ sym (ap fronts_of e.kept))));
+          ∙ (ap (λ (fs : List (List Entry)). fs ++ known.front ∷ []) old.fronts
+          ∙ (sym (map-append (λ (y : Base). y.front) at.worker.expanded (known ∷ [])) ∙ sym (ap fronts_of e.kept)));
       expanded =
           let a = total-append (λ (y : Fill). one_expanded (row_saying y.fate)) s.fills (f ∷ []) in
           let n = old.expanded in
@@ -350,5 +350,5 @@ expanded-keeps P best table records origin w at now s t kids first low falls tur
           omega arith;
       at_tree = λ ns st.
           let size = st.size in
-          expanded-at P best b origin w at now s t kids first low falls turn (sym number) (record { from = omega arith; to = omega arith }) base e x start soon old.fronts ns size (old.at_tree ns st);
+          expanded-at P best b origin w at now s kids known first low falls turn (sym number) (record { from = omega arith; to = omega arith }) base e start soon old.fronts ns size (old.at_tree ns st);
     })

@@ -46,24 +46,24 @@ closed-visit P earlier rows r q node back at now answer close v e =
     let d = subst (Did P (fronts_of earlier) rows v.best r q node at now) e v.did in
     record { best = v.best; low = v.seen; falls = v.least_seen; closes = d.reason; expanded = d.nothing.expanded; won = d.nothing.won }
 
-pub record ExpandedVisit (P : Project) (earlier : List Base) (node : NodeState) (at now : Progress) (back : NodeState) (kids : List (Child NodeState)) : Type 0 where
+pub record ExpandedVisit (P : Project) (earlier : List Base) (node : NodeState) (at now : Progress) (back : NodeState) (kids : List (Child NodeState)) (base : Base) : Type 0 where
   pub best : ℕ
   pub low : best ≤ at.pass.least_seen
   pub falls : now.pass.least_seen ≤ best
-  pub expanding : Expanding P earlier best node at now kids
+  pub expanding : Expanding P earlier best node at now kids base
   pub same : back ≡ node
   pub stand : All (StandsWherePlaced P) kids
   pub won : now.pass.won ≡ at.pass.won + 1
 
-pub expanded-visit : (P : Project) (earlier : List Base) (rows : RowsState) (r q : ℕ) (node back : NodeState) (at now : Progress) (answer : Visited) (kids : List (Child NodeState)) → Visits P (fronts_of earlier) rows r q node at now answer →
-    answer ≡ Expanded back kids → ExpandedVisit P earlier node at now back kids
-expanded-visit P earlier rows r q node back at now answer kids v e =
+pub expanded-visit : (P : Project) (earlier : List Base) (rows : RowsState) (r q : ℕ) (node back : NodeState) (at now : Progress) (answer : Visited) (kids : List (Child NodeState)) (base : Base) → Visits P (fronts_of earlier) rows r q node at now answer →
+    answer ≡ Expanded back kids base → ExpandedVisit P earlier node at now back kids base
+expanded-visit P earlier rows r q node back at now answer kids base v e =
     let d = subst (Did P (fronts_of earlier) rows v.best r q node at now) e v.did in
     record {
       best = v.best;
       low = v.seen;
       falls = v.least_seen;
-      expanding = record { inner = d.inner; is_open = d.unclosed; are = d.are_children; base = d.base; front = d.front; kept = d.kept; offers = d.offers.offers; live = d.live };
+      expanding = record { inner = d.inner; is_open = d.unclosed; are = d.are_children; front = d.front; known = d.known; kept = d.kept; offers = d.offers.offers; live = d.live };
       same = d.same;
       stand = d.stand;
       won = d.won;
@@ -93,16 +93,16 @@ few-kids P node kids limits are =
 one-more : {X : Type 0} (xs ys : List X) (y : X) → ys ≡ xs ++ y ∷ [] → length ys ≡ length xs + 1
 one-more xs ys y e = let a = length-append xs (y ∷ []) in let b : length ys ≡ length (xs ++ y ∷ []) = ap length e in omega arith
 
-pub expanded-counts : (P : Project) (earlier : List Base) (place : ℕ) (node back : NodeState) (at now : Progress) (s t : PartState) (kids : List (Child NodeState)) (first : ℕ) (origin : Origin) → IsWithinLimits P →
-    ExpandedVisit P earlier node at now back kids → ExpandsAs P place back kids first origin s t → Counts (record { at = at; part = s }) → Counts (record { at = now; part = t })
-expanded-counts P earlier place node back at now s t kids first origin limits v x c =
+pub expanded-counts : (P : Project) (earlier : List Base) (place : ℕ) (node back : NodeState) (at now : Progress) (s t : PartState) (kids : List (Child NodeState)) (base : Base) (first : ℕ) (origin : Origin) → IsWithinLimits P →
+    ExpandedVisit P earlier node at now back kids base → ExpandsAs place base kids first origin s t → Counts (record { at = at; part = s }) → Counts (record { at = now; part = t })
+expanded-counts P earlier place node back at now s t kids base first origin limits v x c =
     let few = few-kids P node kids limits v.expanding.are in
     let g : length t.grown ≡ length (s.grown ++ map (new_row origin) kids) = ap length x.grown in
     let ga = length-append s.grown (map (new_row origin) kids) in
     let gm = length-map kids (new_row origin) in
     let f = one-more s.fills t.fills _ x.fills in
     let m = one-more s.made t.made _ x.made in
-    let e = one-more at.worker.expanded now.worker.expanded v.expanding.base v.expanding.kept in
+    let e = one-more at.worker.expanded now.worker.expanded base v.expanding.kept in
     let cg = c.grown in
     let cm = c.made in
     let cw = c.won in

@@ -3,7 +3,6 @@ use Rattle.std.specs.Prelude.{◌≡◌, ℕ, ◌+◌, ◌*◌, ◌<◌, ◌≤�
 use Rattle.rcpsp_model.specs.declared.parts.Child.{Child}
 use Rattle.rcpsp_model.specs.Project.{Project}
 use Rattle.precedence_tree.specs.declared.base.Base.{Base}
-use Rattle.precedence_tree.specs.Base.{IsBaseOf}
 use Rattle.precedence_tree.specs.Node.{NodeState}
 use Rattle.search_log.specs.declared.row.RowFate.TheVariants.{Expanded}
 use Rattle.search_log.specs.declared.row.Origin.{Origin}
@@ -19,14 +18,11 @@ use Rattle.steal_rounds.specs.Children.{new_row, placed_from}
 use Rattle.steal_rounds.specs.Fates.{fate_in, live_numbers, places_of}
 use Rattle.steal_rounds.specs.Part.{Beginning, PartState, part_state, IsPart}
 
--- a node was expanded whose children's rows begin at the place `first`
-pub record ExpandsAs (P : Project) (place : ℕ) (node : NodeState) (children : List (Child NodeState)) (first : ℕ) (origin : Origin) (before after : PartState) : Type 0 where
+-- a node was expanded whose record this is, and whose children's rows begin at the place `first`
+pub record ExpandsAs (place : ℕ) (base : Base) (children : List (Child NodeState)) (first : ℕ) (origin : Origin) (before after : PartState) : Type 0 where
   pub grown : after.grown ≡ before.grown ++ map (new_row origin) children
   pub fills : after.fills ≡ before.fills ++ record { place = place; fate = Expanded (length children) first; origin = origin } ∷ []
   pub live : after.live ≡ before.live
-  pub base : Base
-  pub front : base.front ≡ node.front
-  pub known : IsBaseOf P base
   pub made : after.made ≡ before.made ++ record { place = place; known = base } ∷ []
   pub left : after.left ≡ placed_from first children ++ before.left
 

@@ -1,6 +1,5 @@
 // A node that was expanded joins a part: the rows of its children, its placed children, its record and its fill.
-ghost use Rattle.std.specs.Prelude.{◌≡◌, ◌+◌, ◌≤◌, ◌<◌, ◌∷◌, [], ◌++◌, length, map, OnOk};
-ghost use Rattle.precedence_tree.specs.Node.{StandsFor};
+ghost use Rattle.std.specs.Prelude.{◌≡◌, ◌+◌, ◌≤◌, ◌<◌, ◌++◌, length, map, OnOk};
 ghost use Rattle.steal_rounds.specs.Children.{last_placed, row_of_child, new_row, waiting_child, placed_from};
 ghost use Rattle.steal_rounds.specs.Part.{part_state};
 ghost use Rattle.steal_rounds.specs.Turns.{ExpandsAs};
@@ -9,11 +8,9 @@ use crate::part::Part;
 use crate::source::NodeSource;
 use cutset_store::CutRecord;
 use precedence_tree::{Child, Children, Entry, Node};
-use project_net::Project;
 use sched_base::NoMemory;
 use search_log::{Fill, Origin, Row, RowFate};
 use search_rounds::{NewRow, PlacedRecord, WaitingNode};
-use std::alloc::Global;
 
 // The entry that was placed last; zeros at the root.
 fn last_entry(node: &Node) -> Entry
@@ -96,30 +93,23 @@ fn put_children(source: &mut NodeSource, first: u32, children: Children) -> Resu
     Ok(())
 }
 
-/// A node at a place was expanded, whose children's rows begin at `first`.
+/// A node at a place was expanded, whose record this is, and whose children's rows begin at `first`.
 pub(crate) fn expanded(
-    alloc: Global,
-    project: &Project,
     part: &mut Part,
     place: u32,
-    node: &Node,
+    known: CutRecord,
     children: Children,
     first: u32,
     origin: Origin,
 ) -> Result<(), NoMemory>
-    requires node { StandsFor project.now node.now }
     requires few { length children ≤ 512 }
     requires room { first + length children ≤ 4294967295 }
-    ensures { OnOk result (ExpandsAs project.now place node.now children first origin (part_state part.old) (part_state part.new)) }
+    ensures { OnOk result (ExpandsAs place known children first origin (part_state part.old) (part_state part.new)) }
 {
-    let record = CutRecord::of(alloc, project, node)?;
     let count = children.len() as u16;
     push_rows(&mut part.grown, children.as_slice(), origin)?;
     put_children(&mut part.source, first, children)?;
-    part.made.push(PlacedRecord {
-        place,
-        known: record,
-    })?;
+    part.made.push(PlacedRecord { place, known })?;
     part.fills.push(Fill {
         place,
         fate: RowFate::Expanded { count, first },

@@ -129,9 +129,9 @@ fn take_turn<C: Cells<CutRecord>, G: Gate>(
             closed(records, part, place, close, origin)?;
             Ok(true)
         }
-        Visited::Expanded(node, children) => {
+        Visited::Expanded(_, children, known) => {
             let first = table.rows.len() + part.grown.as_slice().len() as u32;
-            expanded(alloc, project, part, place, &node, children, first, origin)?;
+            expanded(part, place, known, children, first, origin)?;
             gate.pass(origin.worker);
             Ok(true)
         }

@@ -8,6 +8,7 @@ use Rattle.rcpsp_model.specs.declared.parts.Placing.{Placing}
 use Rattle.rcpsp_model.specs.Project.{Project}
 use Rattle.rcpsp_model.specs.Schedule.{end_of}
 use Rattle.rcpsp_model.specs.Tree.{IsLeaf, AreChildren}
+use Rattle.precedence_tree.specs.declared.base.Base.{Base}
 use Rattle.precedence_tree.specs.Node.{NodeState}
 use Rattle.precedence_tree.specs.Children.{child_fronts, StandsWherePlaced}
 use Rattle.cutset_store.specs.Index.{fronts_of}
@@ -111,9 +112,9 @@ few-expanded P rows old mid v u w t best a l h worker ticket within =
 rose-before : (most before refused now : ℕ) → before ≤ refused → min (refused + 1) most ≤ now → min (before + 1) most ≤ now
 rose-before most before refused now low rose = omega arith
 
-shares-one : (P : Project) (rows : RowsState) (F : List Entry) (before refused refused_now : ℕ) (old mid new : WorkerState) (v t x : PassView) → before ≤ refused → t.own ≡ v.own → mid.stopped ≡ old.stopped →
-    Expands P rows F refused refused_now t x mid new → SharesOne before refused_now (at old v) (at new x)
-shares-one P rows F before refused refused_now old mid new v t x low own stopped e = record {
+shares-one : (P : Project) (rows : RowsState) (F : List Entry) (base : Base) (before refused refused_now : ℕ) (old mid new : WorkerState) (v t x : PassView) → before ≤ refused → t.own ≡ v.own → mid.stopped ≡ old.stopped →
+    Expands P rows F base refused refused_now t x mid new → SharesOne before refused_now (at old v) (at new x)
+shares-one P rows F base before refused refused_now old mid new v t x low own stopped e = record {
   going = λ h. let p = e.publishes.going h in ap (λ (y : PassView). y.own) p.view ∙ ap (λ (n : ℕ). n + 1) own;
   ended = λ h. let p = e.publishes.ended h in ap (λ (y : PassView). y.own) p.view ∙ own;
   stays = λ h. e.publishes.stays (stopped ∙ h);
@@ -121,20 +122,20 @@ shares-one P rows F before refused refused_now old mid new v t x low own stopped
 }
 
 -- of what is published, only the own count changes
-pub published-view : (P : Project) (rows : RowsState) (F : List Entry) (refused refused_now : ℕ) (mid new : WorkerState) (t x : PassView) → Expands P rows F refused refused_now t x mid new → x ≡ record t { own = x.own }
-published-view P rows F refused refused_now mid new t x e = by_stop new.stopped refl
+pub published-view : (P : Project) (rows : RowsState) (F : List Entry) (base : Base) (refused refused_now : ℕ) (mid new : WorkerState) (t x : PassView) → Expands P rows F base refused refused_now t x mid new → x ≡ record t { own = x.own }
+published-view P rows F base refused refused_now mid new t x e = by_stop new.stopped refl
   where
     by_stop : (b : Bool) → new.stopped ≡ b → x ≡ record t { own = x.own }
     by_stop true is = let p = e.publishes.ended is in p.view ∙ ap (λ (k : ℕ). record t { own = k }) (sym (ap (λ (y : PassView). y.own) p.view))
     by_stop false is = let p = e.publishes.going is in p.view ∙ ap (λ (k : ℕ). record t { own = k }) (sym (ap (λ (y : PassView). y.own) p.view))
 
-pub visits-expanded : (P : Project) (earlier : List (List Entry)) (rows : RowsState) (before refused refused_now : ℕ) (node : NodeState) (children : List (Child NodeState)) (old mid new : WorkerState) (v u w t x : PassView) (best : ℕ) →
+pub visits-expanded : (P : Project) (earlier : List (List Entry)) (rows : RowsState) (before refused refused_now : ℕ) (node : NodeState) (children : List (Child NodeState)) (base : Base) (old mid new : WorkerState) (v u w t x : PassView) (best : ℕ) →
     before ≤ refused → LoadsBest best v u → Listens u w → (IsLeaf P node.front → ⊥) → IsOpen P earlier (fronts_of old.expanded) best node.front → mid ≡ record old { live = mid.live; heard = mid.heard } → mid.live ≡ old.live → t ≡ with_ticket w →
-    AreChildren P node.front (child_fronts children) → All (StandsWherePlaced P) children → Expands P rows node.front refused refused_now t x mid new →
-    Visits P earlier rows before refused_now node (at old v) (at new x) (Expanded node children)
-visits-expanded P earlier rows before refused refused_now node children old mid new v u w t x best low l h inner known worker live ticket are stand e =
+    AreChildren P node.front (child_fronts children) → All (StandsWherePlaced P) children → Expands P rows node.front base refused refused_now t x mid new →
+    Visits P earlier rows before refused_now node (at old v) (at new x) (Expanded node children base)
+visits-expanded P earlier rows before refused refused_now node children base old mid new v u w t x best low l h inner known worker live ticket are stand e =
     let loaded = loaded-on best v u w l h in
-    let after = published-view P rows node.front refused refused_now mid new t x e in
+    let after = published-view P rows node.front base refused refused_now mid new t x e in
     let first : old.expanded ≡ mid.expanded = sym (ap (λ (y : WorkerState). y.expanded) worker) in
     record {
       best = best;
@@ -150,10 +151,10 @@ visits-expanded P earlier rows before refused refused_now node children old mid 
         stand = stand;
         won = ap (λ (y : PassView). y.won) after ∙ (ap (λ (y : PassView). y.won) ticket ∙ ap (λ (y : PassView). y.won + 1) loaded.view);
         unrefused = ap (λ (y : PassView). y.refused) after ∙ (ap (λ (y : PassView). y.refused) ticket ∙ ap (λ (y : PassView). y.refused) loaded.view);
-        base = e.base;
         front = e.front;
-        kept = e.kept ∙ ap (λ es. es ++ e.base ∷ []) (sym first);
-        shares = shares-one P rows node.front before refused refused_now old mid new v t x low (ap (λ (y : PassView). y.own) ticket ∙ ap (λ (y : PassView). y.own) loaded.view) (ap (λ (y : WorkerState). y.stopped) worker) e;
+        known = e.is;
+        kept = e.kept ∙ ap (λ es. es ++ base ∷ []) (sym first);
+        shares = shares-one P rows node.front base before refused refused_now old mid new v t x low (ap (λ (y : PassView). y.own) ticket ∙ ap (λ (y : PassView). y.own) loaded.view) (ap (λ (y : WorkerState). y.stopped) worker) e;
         offers = record {
           offers = ap (λ (y : PassView). y.offers) after ∙ (ap (λ (y : PassView). y.offers) ticket ∙ ap (λ (y : PassView). y.offers) loaded.view);
           plan_kept = ap (λ (y : WorkerState). y.plan) e.worker ∙ ap (λ (y : WorkerState). y.plan) worker;
@@ -162,7 +163,7 @@ visits-expanded P earlier rows before refused refused_now node children old mid 
       };
     }
 
-pub work-expanded : (P : Project) (rows : RowsState) (F : List Entry) (refused refused_now : ℕ) (mid new : WorkerState) (w t x : PassView) → IsAtWork P rows (at mid w) → t ≡ with_ticket w → Expands P rows F refused refused_now t x mid new →
+pub work-expanded : (P : Project) (rows : RowsState) (F : List Entry) (base : Base) (refused refused_now : ℕ) (mid new : WorkerState) (w t x : PassView) → IsAtWork P rows (at mid w) → t ≡ with_ticket w → Expands P rows F base refused refused_now t x mid new →
     IsAtWork P rows (at new x)
-work-expanded P rows F refused refused_now mid new w t x a ticket e =
-    at_work-expanded P rows F refused refused_now w x mid new a (subst (λ (y : PassView). Expands P rows F refused refused_now y x mid new) ticket e)
+work-expanded P rows F base refused refused_now mid new w t x a ticket e =
+    at_work-expanded P rows F base refused refused_now w x mid new a (subst (λ (y : PassView). Expands P rows F base refused refused_now y x mid new) ticket e)

@@ -87,25 +87,25 @@ at_work-kept P rows at w plan live heard a g won own has notes all = record {
 }
 
 -- a record was expanded with a ticket
-pub at_work-expanded : (P : Project) (rows : RowsState) (F : List Entry) (refused refused_now : ℕ) (v w : PassView) (old new : WorkerState) → IsAtWork P rows (record { worker = old; pass = v }) →
-    Expands P rows F refused refused_now (with_ticket v) w old new → IsAtWork P rows (record { worker = new; pass = w })
-at_work-expanded P rows F refused refused_now v w old new a x =
+pub at_work-expanded : (P : Project) (rows : RowsState) (F : List Entry) (base : Base) (refused refused_now : ℕ) (v w : PassView) (old new : WorkerState) → IsAtWork P rows (record { worker = old; pass = v }) →
+    Expands P rows F base refused refused_now (with_ticket v) w old new → IsAtWork P rows (record { worker = new; pass = w })
+at_work-expanded P rows F base refused refused_now v w old new a x =
     subst (λ (worker : WorkerState). IsAtWork P rows (record { worker = worker; pass = w })) (sym x.worker) (by_stop new.stopped refl)
   where
     grown : WorkerState
     grown = record old { expanded = new.expanded; notes = new.notes; stopped = new.stopped }
 
     size : length new.expanded ≡ length old.expanded + 1
-    size = ap (λ (xs : List Base). length xs) x.kept ∙ length-append old.expanded (x.base ∷ [])
+    size = ap (λ (xs : List Base). length xs) x.kept ∙ length-append old.expanded (base ∷ [])
 
     bases : All (IsBaseOf P) new.expanded
-    bases = All-same (IsBaseOf P) new.expanded (old.expanded ++ x.base ∷ []) x.kept (All-push (IsBaseOf P) old.expanded x.base a.expanded x.is)
+    bases = All-same (IsBaseOf P) new.expanded (old.expanded ++ base ∷ []) x.kept (All-push (IsBaseOf P) old.expanded base a.expanded x.is)
 
     going-before : new.stopped ≡ false → (b : Bool) → old.stopped ≡ b → old.stopped ≡ false
     going-before is true was = absurd (let s = x.publishes.stays was in cc)
     going-before is false was = was
 
-    published : new.stopped ≡ false → IsPublished rows x.base (with_ticket v) w old.notes new.notes → IsAtWork P rows (record { worker = grown; pass = w })
+    published : new.stopped ≡ false → IsPublished rows base (with_ticket v) w old.notes new.notes → IsAtWork P rows (record { worker = grown; pass = w })
     published is p =
         let g : GoesOn v w = record { number = ap (λ (y : PassView). y.number) p.view; terms = ap (λ (y : PassView). y.terms) p.view; later = λ q. let s = ap (seen_of q) p.view in omega arith } in
         let all : length old.notes ≡ length old.expanded = a.going (going-before is old.stopped refl) in
@@ -124,8 +124,8 @@ at_work-expanded P rows F refused refused_now v w old new a x =
           going = λ h. let s = size in omega arith;
           notes = subst (λ (k : ℕ). AreOwnNotes rows k new.expanded new.notes) (sym g.number)
               (subst (λ es. AreOwnNotes rows v.number es new.notes) (sym x.kept)
-              (subst (AreOwnNotes rows v.number (old.expanded ++ x.base ∷ [])) (sym p.kept)
-              (notes-more rows v.number old.expanded old.notes x.base p.note all (subst (λ (k : ℕ). IsNoteOf rows v.number k p.note) a.published p.cell) p.known a.notes)));
+              (subst (AreOwnNotes rows v.number (old.expanded ++ base ∷ [])) (sym p.kept)
+              (notes-more rows v.number old.expanded old.notes base p.note all (subst (λ (k : ℕ). IsNoteOf rows v.number k p.note) a.published p.cell) p.known a.notes)));
           live = notes-later rows v w old.live g a.live;
           plan = subst (λ (ends : List ℕ). HasPlan P ends old.plan) (sym (ap (λ (y : PassView). y.offers) p.view)) a.plan;
           heard = heard-later P rows v w old.heard g a.heard;
@@ -149,8 +149,8 @@ at_work-expanded P rows F refused refused_now v w old new a x =
           going = λ h. absurd cc;
           notes = subst (λ (k : ℕ). AreOwnNotes rows k new.expanded new.notes) (sym g.number)
               (subst (λ es. AreOwnNotes rows v.number es new.notes) (sym x.kept)
-              (subst (AreOwnNotes rows v.number (old.expanded ++ x.base ∷ [])) (sym p.kept)
-              (notes-kept rows v.number old.expanded old.notes x.base a.within a.notes)));
+              (subst (AreOwnNotes rows v.number (old.expanded ++ base ∷ [])) (sym p.kept)
+              (notes-kept rows v.number old.expanded old.notes base a.within a.notes)));
           live = notes-later rows v w old.live g a.live;
           plan = subst (λ (ends : List ℕ). HasPlan P ends old.plan) (sym (ap (λ (y : PassView). y.offers) p.view)) a.plan;
           heard = heard-later P rows v w old.heard g a.heard;

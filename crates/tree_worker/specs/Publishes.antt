@@ -31,9 +31,8 @@ pub record Publishes (rows : RowsState) (base : Base) (stopped still : Bool) (re
   pub stays : stopped ≡ true → still ≡ true
   pub cause : stopped ≡ false → still ≡ true → Rose refused refused_now
 
--- a record of the front F is kept, and then published
-pub record Expands (P : Project) (rows : RowsState) (F : List Entry) (refused refused_now : ℕ) (v w : PassView) (old new : WorkerState) : Type 0 where
-  pub base : Base
+-- this record of the front F is kept, and then published
+pub record Expands (P : Project) (rows : RowsState) (F : List Entry) (base : Base) (refused refused_now : ℕ) (v w : PassView) (old new : WorkerState) : Type 0 where
   pub front : base.front ≡ F
   pub is : IsBaseOf P base
   pub kept : new.expanded ≡ old.expanded ++ base ∷ []

@@ -6,6 +6,7 @@ use Rattle.rcpsp_model.specs.declared.parts.Entry.{Entry}
 use Rattle.rcpsp_model.specs.Project.{Project}
 use Rattle.rcpsp_model.specs.Tree.{IsLeaf, AreChildren}
 use Rattle.precedence_tree.specs.declared.base.Base.{Base}
+use Rattle.precedence_tree.specs.Base.{IsBaseOf}
 use Rattle.precedence_tree.specs.Node.{NodeState}
 use Rattle.precedence_tree.specs.Children.{child_fronts, StandsWherePlaced}
 use Rattle.search_table.specs.declared.view.PassView.{PassView}
@@ -84,8 +85,8 @@ pub record SharesOne (refused refused_now : ℕ) (before after : Progress) : Typ
   pub stays : before.worker.stopped ≡ true → after.worker.stopped ≡ true
   pub cause : before.worker.stopped ≡ false → after.worker.stopped ≡ true → Rose refused refused_now
 
--- an expanded node: a ticket was won, and nothing that was known closes it
-pub record ExpandsNode (P : Project) (earlier : List (List Entry)) (best refused refused_now : ℕ) (node : NodeState) (before after : Progress) (back : NodeState) (children : List (Child NodeState)) : Type 0 where
+-- an expanded node: a ticket was won, and nothing that was known closes it; this is the record of its front that the worker keeps
+pub record ExpandsNode (P : Project) (earlier : List (List Entry)) (best refused refused_now : ℕ) (node : NodeState) (before after : Progress) (back : NodeState) (children : List (Child NodeState)) (base : Base) : Type 0 where
   pub same : back ≡ node
   pub inner : IsLeaf P node.front → ⊥
   pub unclosed : IsOpen P earlier (fronts_of before.worker.expanded) best node.front
@@ -93,8 +94,8 @@ pub record ExpandsNode (P : Project) (earlier : List (List Entry)) (best refused
   pub stand : All (StandsWherePlaced P) children
   pub won : after.pass.won ≡ before.pass.won + 1
   pub unrefused : after.pass.refused ≡ before.pass.refused
-  pub base : Base
   pub front : base.front ≡ node.front
+  pub known : IsBaseOf P base
   pub kept : after.worker.expanded ≡ before.worker.expanded ++ base ∷ []
   pub shares : SharesOne refused refused_now before after
   pub offers : OffersNone before after
@@ -111,7 +112,7 @@ pub record ReturnsNode (P : Project) (node : NodeState) (before after : Progress
 
 abbrev pub Did : Project → List (List Entry) → RowsState → ℕ → ℕ → ℕ → NodeState → Progress → Progress → Visited → Type 0
 Did P earlier rows best refused refused_now node before after (Closed back close) = ClosesNode P earlier rows best node before after back close
-Did P earlier rows best refused refused_now node before after (Expanded back children) = ExpandsNode P earlier best refused refused_now node before after back children
+Did P earlier rows best refused refused_now node before after (Expanded back children base) = ExpandsNode P earlier best refused refused_now node before after back children base
 Did P earlier rows best refused refused_now node before after (Back back) = ReturnsNode P node before after back
 
 -- The visit loaded this best, which is at most all that the pass had seen or offered, and at least what it has then seen

@@ -1,3 +1,4 @@
+use cutset_store::CutRecord;
 use precedence_tree::{Children, Node};
 
 /// Which expanded front dominates the front of a closed node.
@@ -29,8 +30,9 @@ pub enum Close {
 pub enum Visited {
     /// It is closed.
     Closed(Node, Close),
-    /// It was expanded with a ticket; these are all its children, in order.
-    Expanded(Node, Children),
+    /// It was expanded with a ticket; these are all its children, in order, and the record of its front that the worker keeps.
+    /// The record shares its block.
+    Expanded(Node, Children, CutRecord),
     /// There was no ticket for it.
     Back(Node),
 }

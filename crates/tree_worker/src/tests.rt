@@ -6,7 +6,7 @@ ghost use Rattle.precedence_tree.specs.Base.{IsBaseOf};
 ghost use Rattle.precedence_tree.specs.Node.{StandsFor};
 ghost use Rattle.precedence_tree.specs.Children.{StandsWherePlaced};
 ghost use Rattle.search_table.specs.Lists.{Lacks};
-ghost use Rattle.search_table.specs.Views.{with_publication, with_worker};
+ghost use Rattle.search_table.specs.Views.{with_worker};
 ghost use Rattle.tree_worker.specs.Worker.{IsAtWork};
 
 use crate::{Cite, Close, TreeWorker, Visited, WorkerParts};
@@ -20,9 +20,7 @@ use shared_rows::{Cells, Note, OnceCells, Rows};
 use std::alloc::Global;
 use std::process::Abort;
 use std::test::Fail;
-use worked_projects::{
-    EntryRow, NEEDS_DIFFER, NO_LENGTH, TWINS, TWO_IN_TURN, WorkedProject, build, entries,
-};
+use worked_projects::{EntryRow, NO_LENGTH, TWINS, TWO_IN_TURN, WorkedProject, build, entries};
 
 /// How many nodes a round of the tests may expand.
 const QUOTA: u32 = 16;
@@ -223,7 +221,7 @@ fn visit_one<C: Cells<CutRecord>>(
 {
     match worker.visit(alloc, project, table, pass, earlier, rows, cells, node)? {
         Visited::Closed(_, close) => Ok(Some(close)),
-        Visited::Expanded(_, children) => {
+        Visited::Expanded(_, children, _) => {
             push_placed(stack, children)?;
             Ok(None)
         }
@@ -373,26 +371,28 @@ fn walk(rt: &impl Abort, alloc: Global, project: &Project, front: &[EntryRow]) -
     }
 }
 
-/// Puts a record of the front of a project into the pass's row.
+/// The fronts of the twins in one order, and in the other.
+const TWIN: &[EntryRow] = &[(1, 1, 0), (2, 1, 0), (3, 1, 0)];
+
+const OTHER_TWIN: &[EntryRow] = &[(1, 1, 0), (3, 1, 0), (2, 1, 0)];
+
+/// Puts a record of the node into the pass's row.
 fn show(
     rt: &impl Abort,
     alloc: Global,
-    worked: &WorkedProject,
-    front: &[EntryRow],
+    project: &Project,
+    node: &Node,
     rows: &Rows<CutRecord>,
     table: &RoundTable,
     pass: &mut Pass,
-) -> Result<(), Fail>
+) -> Result<(), NoMemory>
+    requires node { StandsFor project.now node.now }
     requires table { pass.old.table ≡ table.now }
     requires workers { pass.old.view.terms.workers ≡ rows.now.workers }
     requires worker { 1 ≤ pass.old.view.number }
     requires room { pass.old.view.own < rows.now.cells }
-    ensures table { pass.new.table ≡ pass.old.table }
-    ensures published { OnOk result (pass.new.view ≡ with_publication pass.old.view) }
 {
-    let project = build(alloc, worked)?;
-    let node = walk(rt, alloc, &project, front)?;
-    let record = CutRecord::of(alloc, &project, &node)?;
+    let record = CutRecord::of(alloc, project, node)?;
     let shown = Box::new(alloc, record)?;
     match rows.put(table, pass, &mut OnceCells::new(), shown) {
         Ok(_) => Ok(()),
@@ -400,102 +400,89 @@ fn show(
     }
 }
 
-/// Worker 1 shows a front of twins and one of another project; worker 2 visits the twins in the other order.
-#[test]
-fn a_record_of_another_worker_closes(rt: HostRuntime) -> Result<(), Fail> {
-    let alloc = rt.alloc();
-    let project = build(alloc, &TWINS)?;
-    let (table, mut first) = RoundTable::new(alloc, 7, u64::from(QUOTA), 2)?;
-    let rows = Rows::new(alloc, 2, QUOTA)?;
-    let (mut worker, mut two) = begin(alloc, &project, &table, &mut first, &rows, 2);
-    let mut one = table.split(&mut first, 1);
-    show(
-        &rt,
-        alloc,
-        &TWINS,
-        &[(1, 1, 0), (2, 1, 0), (3, 1, 0)],
-        &rows,
-        &table,
-        &mut one,
-    )?;
-    show(
-        &rt,
-        alloc,
-        &NEEDS_DIFFER,
-        &[(1, 1, 0), (2, 2, 0), (3, 1, 0)],
-        &rows,
-        &table,
-        &mut one,
-    )?;
-    let earlier = Index::new(alloc, &project);
-    let node = walk(&rt, alloc, &project, &[(1, 1, 0), (3, 1, 0), (2, 1, 0)])?;
-    let mut cells = OnceCells::new();
-    let cite = Cite::Live {
-        worker: 1,
-        place: 0,
-    };
-    match worker.visit(
-        alloc, &project, &table, &mut two, &earlier, &rows, &mut cells, node,
-    )? {
-        Visited::Closed(_, close) => assert_eq!(rt; close, Close::Cutset(cite)),
-        _ => panic!(rt; "the node isn't closed"),
-    }
-    let parts = worker.into_parts();
-    assert_eq!(rt; parts.live.len(), 1);
-    assert_eq!(rt; parts.own.len(), 0);
-    Ok(())
-}
-
-/// An index that has a record of the node alone.
+/// An index that has a record of the node alone, or none.
 fn index_of(
     rt: &impl Abort,
     alloc: Global,
     project: &Project,
     node: &Node,
+    has_record: bool,
 ) -> Result<Index, NoMemory>
     requires { StandsFor project.now node.now }
     ensures { IfOk result (All (IsBaseOf project.now)) }
 {
-    let own = CutRecord::of(alloc, project, node)?;
     let mut index = Index::new(alloc, project);
+    if !has_record {
+        return Ok(index);
+    }
+    let own = CutRecord::of(alloc, project, node)?;
     match index.add(own, SetPlace::Unknown) {
         Ok(_) => Ok(index),
         Err(_) => panic!(rt; "there is no room"),
     }
 }
 
-/// Why a visit by a worker without a ticket closes the node, where the index has a record of another.
-fn closed_without_ticket(
+/// Why a visit by worker 2 closes the node, where worker 1 shows a record of the other.
+fn closed_beside(
+    rt: &impl Abort,
     alloc: Global,
     project: &Project,
+    shown: &Node,
     earlier: &Index,
     node: Node,
 ) -> Result<Option<Close>, NoMemory>
+    requires shown { StandsFor project.now shown.now }
     requires earlier { All (IsBaseOf project.now) earlier.now }
     requires node { StandsFor project.now node }
 {
-    let (table, mut first) = RoundTable::new(alloc, 7, 0, 1)?;
-    let rows = Rows::new(alloc, 1, 1)?;
-    let (mut worker, mut pass) = begin(alloc, project, &table, &mut first, &rows, 1);
+    let (table, mut first) = RoundTable::new(alloc, 7, 0, 2)?;
+    let rows = Rows::new(alloc, 2, 1)?;
+    let (mut worker, mut two) = begin(alloc, project, &table, &mut first, &rows, 2);
+    let mut one = table.split(&mut first, 1);
+    show(rt, alloc, project, shown, &rows, &table, &mut one)?;
     let mut cells = OnceCells::new();
     match worker.visit(
-        alloc, project, &table, &mut pass, earlier, &rows, &mut cells, node,
+        alloc, project, &table, &mut two, earlier, &rows, &mut cells, node,
     )? {
         Visited::Closed(_, close) => Ok(Some(close)),
         Visited::Expanded(..) | Visited::Back(_) => Ok(None),
     }
 }
 
+/// Worker 1 shows a front of twins; worker 2, which has no ticket, visits the twins in the other order.
+fn close_of_other_twin(
+    rt: &impl Abort,
+    alloc: Global,
+    project: &Project,
+    has_earlier: bool,
+) -> Result<Option<Close>, Fail> {
+    let twin = walk(rt, alloc, project, TWIN)?;
+    let other = walk(rt, alloc, project, OTHER_TWIN)?;
+    let earlier = index_of(rt, alloc, project, &twin, has_earlier)?;
+    Ok(closed_beside(rt, alloc, project, &twin, &earlier, other)?)
+}
+
 #[test]
-fn a_front_of_an_earlier_round_closes(rt: HostRuntime) -> Result<(), Fail> {
+fn records_of_others_close(rt: HostRuntime) -> Result<(), Fail> {
+    let project = build(rt.alloc(), &TWINS)?;
+    let live = Cite::Live {
+        worker: 1,
+        place: 0,
+    };
+    for (has_earlier, cite) in [(false, live), (true, Cite::Earlier(0))] {
+        let close = close_of_other_twin(&rt, rt.alloc(), &project, has_earlier)?;
+        assert_eq!(rt; close, Some(Close::Cutset(cite)));
+    }
+    Ok(())
+}
+
+#[test]
+fn a_node_comes_back(rt: HostRuntime) -> Result<(), Fail> {
     let alloc = rt.alloc();
     let project = build(alloc, &TWINS)?;
-    let twin = walk(&rt, alloc, &project, &[(1, 1, 0), (2, 1, 0), (3, 1, 0)])?;
-    let earlier = index_of(&rt, alloc, &project, &twin)?;
-    let node = walk(&rt, alloc, &project, &[(1, 1, 0), (3, 1, 0), (2, 1, 0)])?;
-    let close = closed_without_ticket(alloc, &project, &earlier, node)?;
-    assert_eq!(rt; close, Some(Close::Cutset(Cite::Earlier(0))));
-    let close = closed_without_ticket(alloc, &project, &earlier, Node::root())?;
+    let earlier = Index::new(alloc, &project);
+    let twin = walk(&rt, alloc, &project, TWIN)?;
+    let close = closed_beside(&rt, alloc, &project, &twin, &earlier, Node::root())?;
     assert_eq!(rt; close, None);
     Ok(())
 }

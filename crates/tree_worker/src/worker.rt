@@ -192,7 +192,8 @@ impl TreeWorker {
         }
     }
 
-    /// Expands a node for which a ticket was won: its children, in order. Its record is kept, and then published.
+    /// Expands a node for which a ticket was won: its children, in order, and its record, which is kept, and then published.
+    /// The record is three times that of one block.
     fn expand_node<C: Cells<CutRecord>>(
         &mut self,
         alloc: Global,
@@ -203,7 +204,7 @@ impl TreeWorker {
         cells: &mut C,
         node: &Node,
         set: SetPlace,
-    ) -> Result<Children, NoMemory>
+    ) -> Result<(Children, CutRecord), NoMemory>
         requires table { pass.old.table ≡ table.now }
         requires workers { pass.old.view.terms.workers ≡ rows.now.workers }
         requires worker { 1 ≤ pass.old.view.number }
@@ -212,9 +213,9 @@ impl TreeWorker {
         requires node { StandsFor project.now node.now }
         ensures table { pass.new.table ≡ pass.old.table }
         ensures err { OnErr result (pass.new.view ≡ pass.old.view) }
-        ensures children { IfOk result (λ cs. AreChildren project.now node.now.front (child_fronts cs)) }
-        ensures stand { IfOk result (All (StandsWherePlaced project.now)) }
-        ensures expands { OnOk result (Expands project.now rows.now node.now.front (C.refused cells.old) (C.refused cells.new) pass.old.view pass.new.view self.old self.new) }
+        ensures children { IfOk result (λ made. AreChildren project.now node.now.front (child_fronts made.0)) }
+        ensures stand { IfOk result (λ made. All (StandsWherePlaced project.now) made.0) }
+        ensures expands { IfOk result (λ made. Expands project.now rows.now node.now.front made.1 (C.refused cells.old) (C.refused cells.new) pass.old.view pass.new.view self.old self.new) }
         ensures refused_later { C.refused cells.old ≤ C.refused cells.new }
         ensures empty_later { C.empty cells.old ≤ C.empty cells.new }
     {
@@ -224,6 +225,7 @@ impl TreeWorker {
         let record = CutRecord::of_expanded(&expansion)?;
         let copy = CutRecord::of_expanded(&expansion)?;
         let shown = Box::new(alloc, copy)?;
+        let known = CutRecord::of_expanded(&expansion)?;
         self.notes.reserve(1)?;
         keep(&mut self.own, record, set)?;
         self.stopped = publish(
@@ -235,7 +237,7 @@ impl TreeWorker {
             shown,
             &mut self.notes,
         );
-        Ok(children)
+        Ok((children, known))
     }
 
     /// Visits a node: closes it, expands it with a ticket, or gives it back where there is none. It asks in this order
@@ -292,10 +294,10 @@ impl TreeWorker {
         }
         match table.draw(pass) {
             Draw::Ticket => {
-                let children = self.expand_node(
+                let (children, known) = self.expand_node(
                     alloc, project, rows, table, pass, cells, &node, set,
                 )?;
-                Ok(Visited::Expanded(node, children))
+                Ok(Visited::Expanded(node, children, known))
             }
             Draw::Spent(_) => Ok(Visited::Back(node)),
         }

@@ -2,7 +2,6 @@ use Rattle.std.proofs.Common.{◌≡◌, ◌∙◌, ◌+◌, refl, sym, ap, subs
 use Rattle.precedence_tree.specs.Node.{NodeState, StandsFor}
 use Rattle.search_rounds.specs.declared.round.WaitingNode.{WaitingNode}
 use Rattle.steal_rounds.specs.Part.{part_state}
-use Rattle.steal_rounds.specs.Turns.{ExpandsAs}
 use Rattle.steal_rounds.proofs.ChildRows.{kid-stands}
 use Rattle.steal_rounds.proofs.ClosedNodes.{cited-within}
 use Rattle.steal_rounds.proofs.TurnSteps.{same_part, closed-keeps, expanded-keeps, back-keeps}
@@ -30,12 +29,12 @@ returns-in-Closed-clause-counts g c =
 
 pub expanded-requires-clause-few : goal.expanded-requires-clause-few
 expanded-requires-clause-few g c =
-    let v = expanded-visit c.args.project.now c.args.records.now.index c.args.rows.now _ _ c.args.next.node c.in-Expanded.node _ _ c.in_ok-close.field-0 c.in-Expanded.children c.in_ok-close.ensures.visits c.in-Expanded.is in
+    let v = expanded-visit c.args.project.now c.args.records.now.index c.args.rows.now _ _ c.args.next.node c.in-Expanded.field-0 _ _ c.in_ok-close.field-0 c.in-Expanded.children c.in-Expanded.known c.in_ok-close.ensures.visits c.in-Expanded.is in
     few-kids c.args.project.now c.args.next.node c.in-Expanded.children c.known.ensures.limits v.expanding.are
 
 pub expanded-requires-clause-room : goal.expanded-requires-clause-room
 expanded-requires-clause-room g c =
-    let v = expanded-visit c.args.project.now c.args.records.now.index c.args.rows.now _ _ c.args.next.node c.in-Expanded.node _ _ c.in_ok-close.field-0 c.in-Expanded.children c.in_ok-close.ensures.visits c.in-Expanded.is in
+    let v = expanded-visit c.args.project.now c.args.records.now.index c.args.rows.now _ _ c.args.next.node c.in-Expanded.field-0 _ _ c.in_ok-close.field-0 c.in-Expanded.children c.in-Expanded.known c.in_ok-close.ensures.visits c.in-Expanded.is in
     let few = few-kids c.args.project.now c.args.next.node c.in-Expanded.children c.known.ensures.limits v.expanding.are in
     let grown = c.requires.counts.grown in
     let turn = c.requires.turn in
@@ -47,23 +46,22 @@ expanded-requires-clause-room g c =
 
 pub returns-in-Expanded-clause-nodes : goal.returns-in-Expanded-clause-nodes
 returns-in-Expanded-clause-nodes g c =
-    let v = expanded-visit c.args.project.now c.args.records.now.index c.args.rows.now _ _ c.args.next.node c.in-Expanded.node _ _ c.in_ok-close.field-0 c.in-Expanded.children c.in_ok-close.ensures.visits c.in-Expanded.is in
+    let v = expanded-visit c.args.project.now c.args.records.now.index c.args.rows.now _ _ c.args.next.node c.in-Expanded.field-0 _ _ c.in_ok-close.field-0 c.in-Expanded.children c.in-Expanded.known c.in_ok-close.ensures.visits c.in-Expanded.is in
     subst (All (λ (w : WaitingNode). StandsFor c.args.project.now w.node)) (sym c.in_ok-expanded-in-Expanded.ensures.left)
     (kid-stands c.args.project.now _ c.in-Expanded.children v.stand c.args.part.now.source c.requires.others)
 
 pub returns-in-Expanded-clause-counts : goal.returns-in-Expanded-clause-counts
 returns-in-Expanded-clause-counts g c =
-    let v = expanded-visit c.args.project.now c.args.records.now.index c.args.rows.now _ _ c.args.next.node c.in-Expanded.node _ _ c.in_ok-close.field-0 c.in-Expanded.children c.in_ok-close.ensures.visits c.in-Expanded.is in
-    expanded-counts c.args.project.now c.args.records.now.index c.args.next.place c.args.next.node c.in-Expanded.node _ _ _ _ c.in-Expanded.children _ c.args.origin c.known.ensures.limits v c.in_ok-expanded-in-Expanded.ensures c.requires.counts
+    let v = expanded-visit c.args.project.now c.args.records.now.index c.args.rows.now _ _ c.args.next.node c.in-Expanded.field-0 _ _ c.in_ok-close.field-0 c.in-Expanded.children c.in-Expanded.known c.in_ok-close.ensures.visits c.in-Expanded.is in
+    expanded-counts c.args.project.now c.args.records.now.index c.args.next.place c.args.next.node c.in-Expanded.field-0 _ _ _ _ c.in-Expanded.children c.in-Expanded.known _ c.args.origin c.known.ensures.limits v c.in_ok-expanded-in-Expanded.ensures c.requires.counts
 
 pub returns-in-Expanded-clause-keeps : goal.returns-in-Expanded-clause-keeps
 returns-in-Expanded-clause-keeps g c =
-    let v = expanded-visit c.args.project.now c.args.records.now.index c.args.rows.now _ _ c.args.next.node c.in-Expanded.node _ _ c.in_ok-close.field-0 c.in-Expanded.children c.in_ok-close.ensures.visits c.in-Expanded.is in
+    let v = expanded-visit c.args.project.now c.args.records.now.index c.args.rows.now _ _ c.args.next.node c.in-Expanded.field-0 _ _ c.in_ok-close.field-0 c.in-Expanded.children c.in-Expanded.known c.in_ok-close.ensures.visits c.in-Expanded.is in
     let s = part_state c.args.part.now in
     let a = c.len.ensures in
     let d : length c.as_slice.result.now ≡ length c.args.part.now.grown.items = ap length c.as_slice.ensures.value in
-    expanded-keeps c.args.project.now v.best c.args.table.now c.args.records.now c.args.origin c.args.next _ _ s _ c.in-Expanded.children _ v.low v.falls c.requires.turn (omega arith) v.expanding
-    (subst (λ (n : NodeState). ExpandsAs c.args.project.now c.args.next.place n c.in-Expanded.children (c.len.result + length c.as_slice.result.now) c.args.origin s (part_state c.expanded.new.part)) v.same c.in_ok-expanded-in-Expanded.ensures)
+    expanded-keeps c.args.project.now v.best c.args.table.now c.args.records.now c.args.origin c.args.next _ _ s _ c.in-Expanded.children c.in-Expanded.known _ v.low v.falls c.requires.turn (omega arith) v.expanding c.in_ok-expanded-in-Expanded.ensures
 
 pub returns-clause-counts : goal.returns-clause-counts
 returns-clause-counts g c =

@@ -38,7 +38,7 @@ returns-in_ok-children-in-Ticket-clause-visits g c =
     let best = c.best-best.result in
     let l : LoadsBest best v u = record { view = c.best-best.ensures.view; seen = c.best-best.ensures.seen; offered = c.best-best.ensures.offered } in
     visits-expanded c.args.project.now (fronts_of c.args.earlier.now) c.args.rows.now (g.C.Cells.refused c.args.cells.now) (g.C.Cells.refused c.cited_live.new.cells) (g.C.Cells.refused c.expand_node.new.cells) c.args.node
-    c.in_ok-children-in-Ticket.children c.args.self.now c.cited_live.new.self c.expand_node.new.self v u c.cited_live.new.pass.view c.draw.new.pass.view c.expand_node.new.pass.view best c.cited_live.ensures.refused_later l
+    c.in_ok-children-in-Ticket.children c.in_ok-children-in-Ticket.known c.args.self.now c.cited_live.new.self c.expand_node.new.self v u c.cited_live.new.pass.view c.draw.new.pass.view c.expand_node.new.pass.view best c.cited_live.ensures.refused_later l
     c.cited_live.ensures.listens (λ leaf. both_ways c.is_leaf.result c.if-is_leaf.false (c.is_leaf.ensures.1 leaf)) c.in-Passes.ensures c.cited_live.ensures.worker c.in-None.ensures.none
     c.in-Ticket.ensures.drawn.outcome.view c.in_ok-children-in-Ticket.ensures.children c.in_ok-children-in-Ticket.ensures.stand c.in_ok-children-in-Ticket.ensures.expands
 
@@ -55,5 +55,5 @@ returns-in_ok-children-in-Ticket-clause-work g c =
     let l : LoadsBest best v u = record { view = c.best-best.ensures.view; seen = c.best-best.ensures.seen; offered = c.best-best.ensures.offered } in
     let h = c.cited_live.ensures.listens in
     let heard = work-heard P rows old mid v u w best c.requires.work l h c.cited_live.ensures.worker c.cited_live.ensures.heard (live-same P rows old mid v u w best c.requires.work l h c.in-None.ensures.none) in
-    work-expanded P rows c.args.node.front (g.C.Cells.refused c.cited_live.new.cells) (g.C.Cells.refused c.expand_node.new.cells) mid c.expand_node.new.self w c.draw.new.pass.view c.expand_node.new.pass.view heard
+    work-expanded P rows c.args.node.front c.in_ok-children-in-Ticket.known (g.C.Cells.refused c.cited_live.new.cells) (g.C.Cells.refused c.expand_node.new.cells) mid c.expand_node.new.self w c.draw.new.pass.view c.expand_node.new.pass.view heard
     c.in-Ticket.ensures.drawn.outcome.view c.in_ok-children-in-Ticket.ensures.expands
