@@ -3,6 +3,9 @@ pub mod OptionWords
 pub mod TwinLines
 pub mod CountedFronts
 pub mod SearchedReports
+pub mod FedReports
 pub mod TextFronts
 pub mod StatusesTold
 pub mod ReportsTold
+pub mod ReportsJudged
+pub mod TrialsTold

@@ -16,7 +16,7 @@ use Rattle.schedule_cli.specs.Words.{IsSolve, project_name, workers_in, nodes_in
 use Rattle.schedule_cli.specs.Status.{IsSolved}
 use Rattle.schedule_cli.specs.Solve.{IsSolution, IsNoLaterThanFirst, ExpandsNoTwins, HasAtMostFronts, with_log, IsSearched}
 use Rattle.schedule_cli.specs.Answer.{IsOutcomeUnder, IsAnswerTo, IsNamed, Tells, WhereSolved, TellsAccepted, status_of, status_of_verdict, text_of}
-use Rattle.schedule_cli.proofs.CommandWords.{bad_is_none, not_made, not_shown}
+use Rattle.schedule_cli.proofs.CommandWords.{bad_is_none, not_made, not_shown, not_solved, not_tried}
 use Rattle.schedule_cli.proofs.StatusesTold.{asks_show}
 
 -- the project under the name, of which this is the report
@@ -33,14 +33,16 @@ reported words (Some ts) told is = record { project = is.0; named = is.1; search
 abbrev Follows : List (List ℕ) → (Project → Report → Type 0) → Type 0
 Follows words Q = (P : Project) (told : Report) (is : IsSearched P (workers_in words) (nodes_in words) (prints_log words) told) → Q P is.whole
 
-verdict-with_log : (log : Bool) (report : Report) → (with_log log report).verdict ≡ report.verdict
-verdict-with_log true report = refl
-verdict-with_log false report = refl
+pub verdict_with_log : (log : Bool) (report : Report) → (with_log log report).verdict ≡ report.verdict
+verdict_with_log true report = refl
+verdict_with_log false report = refl
 
 tells : (words : List (List ℕ)) (texts : Option (List (List ℕ × List ℕ))) (answer : Answer) (status : Status) (before now : Option (List ℕ)) (Q : Project → Report → Type 0) →
     IsAnswerTo words texts answer → status ≡ status_of answer → Gains before now (text_of answer) → Follows words Q → WhereSolved words texts status before now Q
 tells words texts (answers.BadWords bad) status before now Q is e gains follows = λ solve solved. absurd (bad_is_none words bad.place is solve.0)
 tells words texts (answers.Made printed) status before now Q is e gains follows = λ solve solved. absurd (not_made words (inl solve) is.0)
+tells words texts (answers.Tried trial) status before now Q is e gains follows = λ solve solved. absurd (not_tried words (inl solve) is.0)
+tells words texts (answers.Judged j) status before now Q is e gains follows = λ solve solved. absurd (not_solved words is.check solve)
 tells words texts (answers.Read (outcomes.Solved told)) status before now Q is e gains follows = λ solve solved.
     let r = reported words texts told is in
     let whole = r.searched.whole in
@@ -48,7 +50,7 @@ tells words texts (answers.Read (outcomes.Solved told)) status before now Q is e
       project = r.project;
       named = r.named;
       report = whole;
-      status_is = e ∙ ap status_of_verdict (ap (λ (report : Report). report.verdict) r.searched.is_told ∙ verdict-with_log (prints_log words) whole);
+      status_is = e ∙ ap status_of_verdict (ap (λ (report : Report). report.verdict) r.searched.is_told ∙ verdict_with_log (prints_log words) whole);
       gains = subst (λ (report : Report). Gains before now (text report)) r.searched.is_told gains;
       is_so = follows r.project told r.searched;
     }
@@ -67,10 +69,10 @@ pub tells_no_twins : (words : List (List ℕ)) (texts : Option (List (List ℕ �
     status ≡ status_of answer → Gains before now (text_of answer) → workers_in words ≡ 1 → WhereSolved words texts status before now ExpandsNoTwins
 tells_no_twins words texts answer status before now is e gains one = tells words texts answer status before now ExpandsNoTwins is e gains (λ P told s. s.no_twins one)
 
-limit-is : (verdict : Verdict) → status_of_verdict verdict ≡ statuses.Limit → IsLimit verdict
-limit-is (Optimal d) e = absurd cc
-limit-is Infeasible e = absurd cc
-limit-is (Limit d b) e = tt
+pub limit_is : (verdict : Verdict) → status_of_verdict verdict ≡ statuses.Limit → IsLimit verdict
+limit_is (Optimal d) e = absurd cc
+limit_is Infeasible e = absurd cc
+limit_is (Limit d b) e = tt
 
 ends-told : (words : List (List ℕ)) (texts : Option (List (List ℕ × List ℕ))) (status : Status) (before now : Option (List ℕ)) →
     Tells words texts status before now (λ P report. HasAtMostFronts P (nodes_in words) → IsLimit report.verdict → ⊥) → Tells words texts status before now (λ P report. HasAtMostFronts P (nodes_in words) → status ≡ statuses.Limit → ⊥)
@@ -80,7 +82,7 @@ ends-told words texts status before now t = record {
   report = t.report;
   status_is = t.status_is;
   gains = t.gains;
-  is_so = λ few limit. t.is_so few (limit-is t.report.verdict (sym t.status_is ∙ limit));
+  is_so = λ few limit. t.is_so few (limit_is t.report.verdict (sym t.status_is ∙ limit));
 }
 
 pub tells_ends : (words : List (List ℕ)) (texts : Option (List (List ℕ × List ℕ))) (answer : Answer) (status : Status) (before now : Option (List ℕ)) → IsAnswerTo words texts answer →

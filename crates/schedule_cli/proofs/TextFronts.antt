@@ -3,11 +3,14 @@ use Rattle.std.proofs.Common.{◌≡◌, ℕ, ◌<◌, inl, inr, sym, subst, ◌
 use Rattle.std.proofs.lemmas.Bool.{cases_lt}
 use Rattle.std.proofs.lemmas.List.{take_all}
 use Rattle.psplib_lex.specs.declared.lexer.TheConstants.{MOST_BYTES}
+use Rattle.psplib_layout.specs.Text.{Reads}
 use Rattle.psplib_layout.proofs.OneContent.{long_text}
+use Rattle.rcpsp_model.specs.Project.{Project}
 use Rattle.sched_base.specs.Outside.{text_under}
 use Rattle.schedule_cli.specs.declared.answer.Outcome.{Outcome}
 use Rattle.schedule_cli.specs.declared.answer.Outcome.TheVariants.{Solved, Shown, BadProject}
-use Rattle.schedule_cli.specs.Answer.{IsOutcomeOf, IsOutcomeUnder}
+use Rattle.schedule_cli.specs.Words.{project_name}
+use Rattle.schedule_cli.specs.Answer.{IsOutcomeOf, IsOutcomeUnder, IsNamed}
 
 long_front : (text : List ℕ) (most : ℕ) → MOST_BYTES < most → MOST_BYTES < length text → MOST_BYTES < length (take most text)
 long_front text most more long = let n = length-take most text in omega arith
@@ -28,6 +31,19 @@ front_outcome words text most outcome more is = elim (cases_lt MOST_BYTES (lengt
         | inr cycle ↦ let few = cycle.has_content.few_bytes in absurd (omega arith)
       ],
     )
+
+-- a text whose front is a project is that project
+front-reads : (text : List ℕ) (most : ℕ) (P : Project) → MOST_BYTES < most → Reads (take most text) P → Reads text P
+front-reads text most P more reads = elim (cases_lt MOST_BYTES (length text)) [
+  | inl long ↦ let few = reads.has_content.few_bytes in let front = long_front text most more long in absurd (omega arith)
+  | inr short ↦ subst (λ (bytes : List ℕ). Reads bytes P) (take_all most text (omega arith)) reads
+]
+
+pub front_named : (words : List (List ℕ)) (texts : Option (List (List ℕ × List ℕ))) (name bytes : List ℕ) (most : ℕ) (P : Project) → MOST_BYTES < most → name ≡ project_name words →
+    IfSome texts (λ ts. bytes ≡ take most (text_under ts name)) → Reads bytes P → IsNamed words texts P
+front_named words None name bytes most P more same read reads = (bytes, reads)
+front_named words (Some ts) name bytes most P more same read reads =
+    subst (λ (n : List ℕ). Reads (text_under ts n) P) same (front-reads (text_under ts name) most P more (subst (λ (bs : List ℕ). Reads bs P) read reads))
 
 -- the same of the text under a name, or of the text that was read where none is told
 pub told_outcome : (words : List (List ℕ)) (texts : Option (List (List ℕ × List ℕ))) (name other bytes : List ℕ) (most : ℕ) (outcome : Outcome) → MOST_BYTES < most → name ≡ other →

@@ -1,9 +1,10 @@
 -- What a run has to tell: the answer to its words, with its text and its status.
-use Rattle.std.specs.Prelude.{◌≡◌, ◌⊎◌, ℕ, List, [], ◌∷◌, ◌++◌, codes, decimal, Option, Some, None}
+use Rattle.std.specs.Prelude.{◌≡◌, ◌⊎◌, ◌↔◌, ℕ, List, [], ◌∷◌, ◌++◌, codes, decimal, Option, Some, None}
 use Rattle.sched_base.specs.Outside.{text_under, Gains}
 use Rattle.rcpsp_model.specs.declared.parts.Verdict.{Verdict}
 use Rattle.rcpsp_model.specs.declared.parts.Verdict.TheVariants.{Optimal, Infeasible, Limit}
 use Rattle.rcpsp_model.specs.Project.{Project}
+use Rattle.rcpsp_model.specs.Claim.{Claim}
 use Rattle.project_net.specs.Canonical.{canonical}
 use Rattle.project_gen.specs.Made.{made}
 use Rattle.psplib_layout.specs.declared.fault.Fault.{Fault}
@@ -14,15 +15,22 @@ use Rattle.proof_log.specs.Report.{IsReport}
 use Rattle.proof_log.specs.Text.{text}
 use Rattle.schedule_cli.specs.declared.answer.Answer.{Answer}
 use Rattle.schedule_cli.specs.declared.answer.Answer.TheVariants as answers
+use Rattle.log_checker.specs.declared.reason.Reason.{Reason}
+use Rattle.log_checker.specs.Reasons.{number_of}
+use Rattle.log_checker.specs.Refusal.{IsRefusal}
+use Rattle.schedule_cli.specs.declared.answer.Judgement.{Judgement}
+use Rattle.schedule_cli.specs.declared.answer.Trial.{Trial}
+use Rattle.schedule_cli.specs.declared.answer.Judgement.TheVariants as judgements
 use Rattle.schedule_cli.specs.declared.answer.Outcome.{Outcome}
 use Rattle.schedule_cli.specs.declared.answer.Outcome.TheVariants as outcomes
 use Rattle.schedule_cli.specs.declared.solving.Request.{Request}
 use Rattle.schedule_cli.specs.declared.status.Status.{Status}
 use Rattle.schedule_cli.specs.declared.status.Status.TheVariants as statuses
 use Rattle.log_truth.specs.Holds.{Accepts}
+use Rattle.schedule_cli.specs.Judging.{IsTextUnder, IsJudgementOf}
 use Rattle.schedule_cli.specs.Status.{IsSolved}
-use Rattle.schedule_cli.specs.Solve.{with_log, IsSearched}
-use Rattle.schedule_cli.specs.Words.{bad_word, IsSolve, IsShow, IsMake, IsOnProject, project_name, seed_in, jobs_in, modes_in, workers_in, nodes_in, prints_log}
+use Rattle.schedule_cli.specs.Solve.{with_log, IsSearched, IsSearchedTo, IsSolution, IsNoLaterThanFirst, ExpandsNoTwins, HasAtMostFronts}
+use Rattle.schedule_cli.specs.Words.{bad_word, IsSolve, IsCheck, IsShow, IsMake, IsTrial, IsMade, IsOnProject, project_name, report_name, seed_in, jobs_in, modes_in, workers_in, nodes_in, trial_workers_in, trial_nodes_in, prints_log}
 
 -- the number of a fault of a project text
 abbrev pub code_of : Fault → ℕ
@@ -53,10 +61,17 @@ status_of_outcome (outcomes.Solved report) = status_of_verdict report.verdict
 status_of_outcome (outcomes.Shown printed) = statuses.Done
 status_of_outcome (outcomes.BadProject refusal) = statuses.BadProject
 
+-- the status of what a report comes to
+abbrev pub status_of_judgement : Judgement → Status
+status_of_judgement (judgements.Accepted verdict) = statuses.Done
+status_of_judgement (judgements.Refused line reason) = statuses.ReportRefused
+
 -- the status of an answer
 abbrev pub status_of : Answer → Status
 status_of (answers.Read outcome) = status_of_outcome outcome
+status_of (answers.Judged judgement) = status_of_judgement judgement
 status_of (answers.Made printed) = statuses.Done
+status_of (answers.Tried trial) = status_of_verdict trial.verdict
 status_of (answers.BadWords bad) = statuses.BadWords
 
 -- a line of these bytes
@@ -69,18 +84,48 @@ text_of_outcome (outcomes.Solved report) = text report
 text_of_outcome (outcomes.Shown printed) = printed.items
 text_of_outcome (outcomes.BadProject refusal) = codes "bad project: code " ++ (decimal (code_of refusal.fault) ++ (codes " line " ++ line (decimal refusal.line)))
 
+-- a verdict with the duration of an optimal schedule, or with the lower bound
+abbrev pub verdict_words : Verdict → List ℕ
+verdict_words (Optimal duration) = codes "optimal " ++ line (decimal duration)
+verdict_words Infeasible = codes "infeasible" ++ 0x0A ∷ []
+verdict_words (Limit duration lower) = codes "limit " ++ line (decimal lower)
+
+-- what is written for a report that was judged
+abbrev pub text_of_judgement : Judgement → List ℕ
+text_of_judgement (judgements.Accepted verdict) = codes "accepted " ++ verdict_words verdict
+text_of_judgement (judgements.Refused number reason) = codes "report refused: line " ++ (decimal number ++ (codes " reason " ++ line (decimal reason)))
+
+-- the number of jobs and of modes
+abbrev pub size_lines : ℕ → ℕ → List ℕ
+size_lines jobs modes = codes "jobs " ++ (decimal jobs ++ 0x0A ∷ (codes "modes " ++ line (decimal modes)))
+
+-- the verdict, the duration and the lower bound, as in a report
+abbrev pub verdict_lines : Verdict → List ℕ
+verdict_lines (Optimal duration) = codes "verdict optimal" ++ 0x0A ∷ (codes "duration " ++ (decimal duration ++ 0x0A ∷ (codes "lower " ++ line (decimal duration))))
+verdict_lines Infeasible = codes "verdict infeasible" ++ 0x0A ∷ (codes "duration -" ++ 0x0A ∷ line (codes "lower -"))
+verdict_lines (Limit None lower) = codes "verdict limit" ++ 0x0A ∷ (codes "duration -" ++ 0x0A ∷ (codes "lower " ++ line (decimal lower)))
+verdict_lines (Limit (Some duration) lower) = codes "verdict limit" ++ 0x0A ∷ (codes "duration " ++ (decimal duration ++ 0x0A ∷ (codes "lower " ++ line (decimal lower))))
+
+-- what is written for a made project that was solved
+abbrev pub text_of_trial : Trial → List ℕ
+text_of_trial trial = size_lines trial.jobs trial.modes ++ verdict_lines trial.verdict
+
 -- a report among the answers has a text
 abbrev pub IsTellable : Answer → Type 0
 IsTellable (answers.Read (outcomes.Solved report)) = IsReport report
 IsTellable (answers.Read (outcomes.Shown printed)) = Unit {0}
 IsTellable (answers.Read (outcomes.BadProject refusal)) = Unit {0}
+IsTellable (answers.Judged judgement) = Unit {0}
 IsTellable (answers.Made printed) = Unit {0}
+IsTellable (answers.Tried trial) = Unit {0}
 IsTellable (answers.BadWords bad) = Unit {0}
 
 -- what is written for an answer
 abbrev pub text_of : Answer → List ℕ
 text_of (answers.Read outcome) = text_of_outcome outcome
+text_of (answers.Judged judgement) = text_of_judgement judgement
 text_of (answers.Made printed) = printed.items
+text_of (answers.Tried trial) = text_of_trial trial
 text_of (answers.BadWords bad) = codes "bad words: word " ++ line (decimal bad.place)
 
 -- the report of a search as the words ask for it
@@ -106,33 +151,59 @@ abbrev pub IsOutcomeUnder : List (List ℕ) → Option (List (List ℕ × List �
 IsOutcomeUnder words None name outcome = (bytes : List ℕ) × IsOutcomeOf words bytes outcome
 IsOutcomeUnder words (Some texts) name outcome = IsOutcomeOf words (text_under texts name) outcome
 
--- the answer to the words: the place of the word that can't stand; or what the text under the project's name comes to; or
--- the canonical text of a made project
+-- the text under the project's name is this project; where the shelf doesn't tell its texts, some text is
+abbrev pub IsNamed : List (List ℕ) → Option (List (List ℕ × List ℕ)) → Project → Type 0
+IsNamed words None P = (bytes : List ℕ) × Reads bytes P
+IsNamed words (Some texts) P = Reads (text_under texts (project_name words)) P
+
+-- the words are `check`, and this is the judgement of the report under the one name as one on the project under the other
+pub record IsJudgementTo (words : List (List ℕ)) (texts : Option (List (List ℕ × List ℕ))) (judgement : Judgement) : Type 0 where
+  pub check : IsCheck words
+  pub project : Project
+  pub named : IsNamed words texts project
+  pub judged : IsJudgementOf project texts (report_name words) judgement
+
+-- a project of so many jobs and modes that is made from the seed was searched, and this is the verdict of the report
+pub record IsTrialOf (seed jobs modes workers nodes : ℕ) (trial : Trial) : Type 0 where
+  pub jobs_is : trial.jobs ≡ jobs
+  pub modes_is : trial.modes ≡ modes
+  pub searched : IsSearchedTo (made seed jobs modes) workers nodes trial.verdict
+
+-- the words are `trial`, and this is what the project that they speak of comes to
+abbrev pub IsTrialTo : List (List ℕ) → Trial → Type 0
+IsTrialTo words trial = IsTrial words × IsTrialOf (seed_in words) (jobs_in words) (modes_in words) (trial_workers_in words) (trial_nodes_in words) trial
+
+-- the answer to the words: the place of the word that can't stand; or what the text under the project's name comes to; or the
+-- judgement of a report; or the canonical text of a made project, or what it comes to
 abbrev pub IsAnswerTo : List (List ℕ) → Option (List (List ℕ × List ℕ)) → Answer → Type 0
 IsAnswerTo words texts (answers.BadWords bad) = bad_word words ≡ Some bad.place
 IsAnswerTo words texts (answers.Read outcome) = IsOutcomeUnder words texts (project_name words) outcome
+IsAnswerTo words texts (answers.Judged judgement) = IsJudgementTo words texts judgement
+IsAnswerTo words texts (answers.Tried trial) = IsTrialTo words trial
 IsAnswerTo words texts (answers.Made printed) = IsMake words × (printed.items ≡ canonical (made (seed_in words) (jobs_in words) (modes_in words)))
+
+-- this answer to the words was told, whole, with its status
+pub record Runs (words : List (List ℕ)) (texts : Option (List (List ℕ × List ℕ))) (status : Status) (before now : Option (List ℕ)) : Type 0 where
+  pub answer : Answer
+  pub is_answer : IsAnswerTo words texts answer
+  pub status_is : status ≡ status_of answer
+  pub gains : Gains before now (text_of answer)
 
 -- ---- what the words ask for
 
--- the words are `solve` or `show`, and the text under the project's name is a project
+-- the words speak of a project, and the text under its name is one
 abbrev pub NamesProject : List (List ℕ) → List (List ℕ × List ℕ) → Type 0
 NamesProject words texts = IsOnProject words × IsProjectText (text_under texts (project_name words))
 
--- the words are `solve` or `show`, and the text under the project's name is no project
+-- the words speak of a project, and the text under its name is none
 abbrev pub NamesNoProject : List (List ℕ) → List (List ℕ × List ℕ) → Type 0
 NamesNoProject words texts = IsOnProject words × (IsProjectText (text_under texts (project_name words)) → ⊥)
 
 -- the words name a project, or one is made
 abbrev pub HasProject : List (List ℕ) → List (List ℕ × List ℕ) → Type 0
-HasProject words texts = NamesProject words texts ⊎ IsMake words
+HasProject words texts = NamesProject words texts ⊎ IsMade words
 
 -- ---- what `solve` tells
-
--- the text under the project's name is this project; where the shelf doesn't tell its texts, some text is
-abbrev pub IsNamed : List (List ℕ) → Option (List (List ℕ × List ℕ)) → Project → Type 0
-IsNamed words None P = (bytes : List ℕ) × Reads bytes P
-IsNamed words (Some texts) P = Reads (text_under texts (project_name words)) P
 
 -- a report on the project under the name was told, with its log or without, and with the status of its verdict; and this is
 -- so of the project and of the report with its log
@@ -155,3 +226,38 @@ pub record TellsAccepted (words : List (List ℕ)) (texts : Option (List (List �
   pub bytes : List ℕ
   pub gains : Gains before now bytes
   pub accepted : Accepts project bytes
+
+-- ---- what `check` tells
+
+-- the first line that breaks a rule, with the reason, is told
+pub record TellsRefusal (P : Project) (report : List ℕ) (before now : Option (List ℕ)) : Type 0 where
+  pub number : ℕ
+  pub reason : Reason
+  pub first : IsRefusal P report number reason
+  pub gains : Gains before now (text_of_judgement (judgements.Refused number (number_of reason)))
+
+-- the report under the one name was judged as one on the project under the other: the status is 0 exactly where it is accepted,
+-- its verdict is told, and what it claims, with the schedule in it, is true; and 3 exactly where it isn't
+pub record Judges (words : List (List ℕ)) (texts : Option (List (List ℕ × List ℕ))) (status : Status) (before now : Option (List ℕ)) : Type 0 where
+  pub project : Project
+  pub named : IsNamed words texts project
+  pub report : List ℕ
+  pub is_report : IsTextUnder texts (report_name words) report
+  pub accepts : (status ≡ statuses.Done) ↔ Accepts project report
+  pub refuses : (status ≡ statuses.ReportRefused) ↔ (Accepts project report → ⊥)
+  pub claim : (accepted : Accepts project report) → Claim project accepted.report.verdict accepted.report.best
+  pub tells : (accepted : Accepts project report) → Gains before now (text_of_judgement (judgements.Accepted accepted.report.verdict))
+  pub tells_refusal : (Accepts project report → ⊥) → TellsRefusal project report before now
+
+-- ---- what `trial` tells
+
+-- of the made project, the verdict of a report was told, with its status: the report holds, and what it claims of all schedules is
+-- true; at the limit as many nodes were expanded as the words allow, and one was left; and no expansion was wasted
+pub record Tries (words : List (List ℕ)) (status : Status) (before now : Option (List ℕ)) : Type 0 where
+  pub report : Report
+  pub solution : IsSolution (made (seed_in words) (jobs_in words) (modes_in words)) (trial_workers_in words) (trial_nodes_in words) report
+  pub no_later : IsNoLaterThanFirst (made (seed_in words) (jobs_in words) (modes_in words)) report.verdict
+  pub no_twins : trial_workers_in words ≡ 1 → ExpandsNoTwins (made (seed_in words) (jobs_in words) (modes_in words)) report
+  pub ends : HasAtMostFronts (made (seed_in words) (jobs_in words) (modes_in words)) (trial_nodes_in words) → status ≡ statuses.Limit → ⊥
+  pub status_is : status ≡ status_of_verdict report.verdict
+  pub gains : Gains before now (size_lines (jobs_in words) (modes_in words) ++ verdict_lines report.verdict)

@@ -102,3 +102,9 @@ pub record IsSearched (P : Project) (workers nodes : ℕ) (log : Bool) (told : R
   pub no_later : IsNoLaterThanFirst P whole.verdict
   pub no_twins : workers ≡ 1 → ExpandsNoTwins P whole
   pub ends : HasAtMostFronts P nodes → IsLimit whole.verdict → ⊥
+
+-- the verdict of the report of such a search
+pub record IsSearchedTo (P : Project) (workers nodes : ℕ) (verdict : Verdict) : Type 0 where
+  pub report : Report
+  pub searched : IsSearched P workers nodes false report
+  pub verdict_is : verdict ≡ report.verdict

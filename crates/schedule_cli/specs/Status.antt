@@ -23,6 +23,11 @@ IsSolved Infeasible = Unit {0}
 IsSolved Limit = Unit {0}
 IsSolved _ = ⊥
 
+-- the status of a verdict, or of a report that is judged
+abbrev pub IsServed : Status → Type 0
+IsServed ReportRefused = Unit {0}
+IsServed status = IsSolved status
+
 -- the statuses at which an answer was told whole
 abbrev pub IsTold : Status → Type 0
 IsTold ReadFault = ⊥

@@ -83,22 +83,32 @@ first_bad [] forms (word ∷ words) place = if gives_some forms word then first_
 abbrev pub is_solve : List ℕ → Bool
 is_solve word = bytes_eq word (codes "solve")
 
+abbrev pub is_check : List ℕ → Bool
+is_check word = bytes_eq word (codes "check")
+
 abbrev pub is_show : List ℕ → Bool
 is_show word = bytes_eq word (codes "show")
 
 abbrev pub is_make : List ℕ → Bool
 is_make word = bytes_eq word (codes "make")
 
+abbrev pub is_trial : List ℕ → Bool
+is_trial word = bytes_eq word (codes "trial")
+
 -- the place, from 1, of the first word that can't stand; none where the words are a command:
 --   solve PROJECT     then any of workers=W, nodes=L, log=yes or log=no
+--   check PROJECT REPORT
 --   show PROJECT
 --   make SEED JOBS    then modes=M or nothing
+--   trial SEED JOBS   then any of modes=M, workers=W, nodes=L
 abbrev pub bad_word : List (List ℕ) → Option ℕ
 bad_word [] = Some 1
 bad_word (command ∷ words) =
     if is_solve command then first_bad (is_name ∷ []) (workers_form ∷ nodes_form ∷ log_form ∷ []) words 2 else
+    (if is_check command then first_bad (is_name ∷ is_name ∷ []) [] words 2 else
     (if is_show command then first_bad (is_name ∷ []) [] words 2 else
-    (if is_make command then first_bad (is_seed ∷ is_jobs ∷ []) (modes_form ∷ []) words 2 else Some 1))
+    (if is_make command then first_bad (is_seed ∷ is_jobs ∷ []) (modes_form ∷ []) words 2 else
+    (if is_trial command then first_bad (is_seed ∷ is_jobs ∷ []) (modes_form ∷ workers_form ∷ nodes_form ∷ []) words 2 else Some 1))))
 
 -- ---- what the words ask for
 
@@ -109,15 +119,25 @@ word_at words i = slice_index_or words i []
 abbrev pub IsSolve : List (List ℕ) → Type 0
 IsSolve words = (bad_word words ≡ None) × IsTrue (is_solve (word_at words 0))
 
+abbrev pub IsCheck : List (List ℕ) → Type 0
+IsCheck words = (bad_word words ≡ None) × IsTrue (is_check (word_at words 0))
+
 abbrev pub IsShow : List (List ℕ) → Type 0
 IsShow words = (bad_word words ≡ None) × IsTrue (is_show (word_at words 0))
 
 abbrev pub IsMake : List (List ℕ) → Type 0
 IsMake words = (bad_word words ≡ None) × IsTrue (is_make (word_at words 0))
 
--- the words ask to solve or to show the project under a name
+abbrev pub IsTrial : List (List ℕ) → Type 0
+IsTrial words = (bad_word words ≡ None) × IsTrue (is_trial (word_at words 0))
+
+-- the words speak of a made project: they ask for its text, or to solve it
+abbrev pub IsMade : List (List ℕ) → Type 0
+IsMade words = IsMake words ⊎ IsTrial words
+
+-- the words speak of the project under a name: they ask to solve it, to judge a report on it, or to show it
 abbrev pub IsOnProject : List (List ℕ) → Type 0
-IsOnProject words = IsSolve words ⊎ IsShow words
+IsOnProject words = IsSolve words ⊎ (IsCheck words ⊎ IsShow words)
 
 -- the words ask for the text of a project
 abbrev pub IsPrint : List (List ℕ) → Type 0
@@ -126,6 +146,10 @@ IsPrint words = IsShow words ⊎ IsMake words
 -- the name of the project, which is the second word
 abbrev pub project_name : List (List ℕ) → List ℕ
 project_name words = word_at words 1
+
+-- the name of the report, which is the third
+abbrev pub report_name : List (List ℕ) → List ℕ
+report_name words = word_at words 2
 
 abbrev pub seed_in : List (List ℕ) → ℕ
 seed_in words = digits_value (word_at words 1)
@@ -150,6 +174,13 @@ workers_in words = number_behind (codes "workers=") 1 (drop 2 words)
 abbrev pub nodes_in : List (List ℕ) → ℕ
 nodes_in words = number_behind (codes "nodes=") 50000 (drop 2 words)
 
+-- the same of `trial`, where options stand behind two numbers
+abbrev pub trial_workers_in : List (List ℕ) → ℕ
+trial_workers_in words = number_behind (codes "workers=") 1 (drop 3 words)
+
+abbrev pub trial_nodes_in : List (List ℕ) → ℕ
+trial_nodes_in words = number_behind (codes "nodes=") 50000 (drop 3 words)
+
 -- whether `yes` stands there; the default where there is no such word
 abbrev pub yes_behind : List ℕ → Bool → List (List ℕ) → Bool
 yes_behind key default [] = default
@@ -163,11 +194,16 @@ prints_log words = yes_behind (codes "log=") true (drop 2 words)
 abbrev pub IsCommand : List (List ℕ) → Command → Type 0
 IsCommand words (commands.Solve project workers nodes log) =
     IsSolve words × (project.now ≡ project_name words) × (workers ≡ workers_in words) × (nodes ≡ nodes_in words) × (log ≡ prints_log words)
+IsCommand words (commands.Check project report) = IsCheck words × (project.now ≡ project_name words) × (report.now ≡ report_name words)
 IsCommand words (commands.Show project) = IsShow words × (project.now ≡ project_name words)
 IsCommand words (commands.Make seed jobs modes) = IsMake words × (seed ≡ seed_in words) × (jobs ≡ jobs_in words) × (modes ≡ modes_in words)
+IsCommand words (commands.Trial seed jobs modes workers nodes) =
+    IsTrial words × (seed ≡ seed_in words) × (jobs ≡ jobs_in words) × (modes ≡ modes_in words) × (workers ≡ trial_workers_in words) × (nodes ≡ trial_nodes_in words)
 
 -- the numbers are such that a project can be made, or searched by so many workers up to so many expansions
 abbrev pub IsWithinReach : Command → Type 0
 IsWithinReach (commands.Solve project workers nodes log) = (1 ≤ workers) × (workers ≤ 32) × (nodes ≤ 100000)
 IsWithinReach (commands.Make seed jobs modes) = (3 ≤ jobs) × (jobs ≤ 128) × (1 ≤ modes) × (modes ≤ 4)
+IsWithinReach (commands.Trial seed jobs modes workers nodes) = ((3 ≤ jobs) × (jobs ≤ 128) × (1 ≤ modes) × (modes ≤ 4)) × (1 ≤ workers) × (workers ≤ 32) × (nodes ≤ 100000)
+IsWithinReach (commands.Check project report) = Unit {0}
 IsWithinReach (commands.Show project) = Unit {0}

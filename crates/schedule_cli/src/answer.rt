@@ -18,13 +18,37 @@ pub enum Outcome {
     BadProject(Refusal),
 }
 
+/// What a report comes to where it is judged.
+#[derive(Clone, Copy, Debug, PartialEq, Eq)]
+pub enum Judgement {
+    /// It is accepted, as one of this verdict.
+    Accepted(Verdict),
+    /// A line of it, from 1, breaks a rule, for a reason of a number from 1 to 9.
+    Refused { line: u32, reason: u8 },
+}
+
+/// What a made project comes to where it is solved.
+#[derive(Clone, Copy, Debug, PartialEq, Eq)]
+pub struct Trial {
+    /// How many jobs it has, 3 to 128.
+    pub jobs: u8,
+    /// How many modes each job that takes time has, 1 to 4.
+    pub modes: u8,
+    /// The verdict of the report on it.
+    pub verdict: Verdict,
+}
+
 /// What a run has to tell.
 #[derive(Drop)]
 pub enum Answer {
     /// The words speak of a project text, which comes to this.
     Read(Outcome),
+    /// The words speak of a report, which comes to this.
+    Judged(Judgement),
     /// The words ask for a made project, with this canonical text.
     Made(Vec<u8>),
+    /// The words ask to solve a made project, which comes to this.
+    Tried(Trial),
     /// The words are no command.
     BadWords(BadWords),
 }
@@ -51,6 +75,9 @@ impl Answer {
             Answer::Read(Outcome::Solved(report)) => verdict_status(report.verdict),
             Answer::Read(Outcome::Shown(_)) | Answer::Made(_) => Status::Done,
             Answer::Read(Outcome::BadProject(_)) => Status::BadProject,
+            Answer::Tried(trial) => verdict_status(trial.verdict),
+            Answer::Judged(Judgement::Accepted(_)) => Status::Done,
+            Answer::Judged(Judgement::Refused { .. }) => Status::ReportRefused,
             Answer::BadWords(_) => Status::BadWords,
         }
     }

@@ -1,9 +1,13 @@
-//! The program: it solves a project that is read from a file, and writes a report; and it prints projects, those that are
-//! read and those that are made.
+//! The program: it solves a project that is read from a file, and writes a report; it judges a report; it prints projects,
+//! those that are read and those that are made; and it solves a made project.
 #![tactic(auto)]
 
 mod answer;
+#[cfg(test)]
+mod check_tests;
 mod file_shelf;
+mod judging;
+mod laws;
 #[cfg(test)]
 mod meeting_tests;
 mod number;
@@ -42,17 +46,21 @@ use std::time::Clock;
 
 /// What the program says on standard error where its words are no command.
 const USAGE: &str = "usage: schedule_cli solve PROJECT [workers=W] [nodes=L] [log=yes|log=no]
+       schedule_cli check PROJECT REPORT
        schedule_cli show PROJECT
        schedule_cli make SEED JOBS [modes=M]
+       schedule_cli trial SEED JOBS [modes=M] [workers=W] [nodes=L]
 solve  searches for a shortest schedule of the project in a file, and writes a report
+check  judges a report on the project; docs/FORMATS.md has a table of the reasons for which one is refused
 show   writes the project in its canonical form
 make   writes a project that is made from a seed: SEED 0 to 999999999, JOBS 3 to 128
+trial  makes such a project, searches it, and writes the verdict alone
 W      how many workers search, 1 to 32; 1 if left out
 L      how many nodes they may expand, 0 to 100000; 50000 if left out
 log    whether the report has the log of the search; yes if left out
 M      how many modes a made job has, 1 to 4; 1 if left out
-status 0 optimal, or written; 1 infeasible; 2 the node limit; 4 bad words; 5 bad project;
-       6 a read failed; 7 a write failed; 8 no memory";
+status 0 optimal, accepted or written; 1 infeasible; 2 the node limit; 3 the report is refused;
+       4 bad words; 5 bad project; 6 a read failed; 7 a write failed; 8 no memory";
 
 /// The most bytes of a word that are asked for at first.
 const USUAL_WORD: usize = 4_096;
@@ -95,7 +103,7 @@ fn words_after_name<R: Env + AllocGlobal>(rt: &R) -> Result<Vec<String>, AllocEr
 /// How many nodes the words allow a search to expand; none where they are no search.
 fn nodes_of(words: &[String]) -> Option<u32> {
     match parse_words(words) {
-        Ok(Command::Solve { nodes, .. }) => Some(nodes),
+        Ok(Command::Solve { nodes, .. } | Command::Trial { nodes, .. }) => Some(nodes),
         _ => None,
     }
 }

@@ -53,8 +53,8 @@ fn read_on<S: Shelf>(
 }
 
 /// Room for one piece.
-fn piece_room(alloc: Global) -> Result<Vec<u8>, AllocError>
-    ensures { IfOk result (λ piece. 1 ≤ length piece.items) }
+pub fn piece_room(alloc: Global) -> Result<Vec<u8>, AllocError>
+    ensures { IfOk result (λ piece. length piece.items ≡ PIECE) }
 {
     vec![in alloc; 0; PIECE]
 }

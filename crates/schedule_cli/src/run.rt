@@ -5,14 +5,15 @@ ghost use Rattle.schedule_cli.specs.declared.answer.Answer.TheVariants as answer
 ghost use Rattle.schedule_cli.specs.declared.stop.Stop.TheVariants as stops;
 ghost use Rattle.project_net.specs.Canonical.{canonical};
 ghost use Rattle.project_gen.specs.Made.{made};
-ghost use Rattle.schedule_cli.specs.Words.{bad_word, IsSolve, IsShow, IsMake, IsOnProject, IsPrint, workers_in, nodes_in, prints_log};
+ghost use Rattle.schedule_cli.specs.Words.{bad_word, IsSolve, IsCheck, IsShow, IsMake, IsTrial, IsOnProject, IsPrint, workers_in, nodes_in, prints_log};
 ghost use Rattle.schedule_cli.specs.Solve.{IsSolution, IsNoLaterThanFirst, ExpandsNoTwins, HasAtMostFronts};
-ghost use Rattle.schedule_cli.specs.Status.{IsSolved, IsTold, IsFaultless};
-ghost use Rattle.schedule_cli.specs.Answer.{IsRequest, IsOutcomeOf, IsAnswerTo, IsTellable, HasProject, NamesNoProject, WhereSolved, TellsAccepted, status_of, text_of};
+ghost use Rattle.schedule_cli.specs.Status.{IsSolved, IsServed, IsTold, IsFaultless};
+ghost use Rattle.schedule_cli.specs.Answer.{IsRequest, IsOutcomeOf, IsAnswerTo, IsTellable, HasProject, NamesNoProject, Runs, WhereSolved, TellsAccepted, Judges, Tries, text_of};
 
-use crate::answer::{Answer, Outcome};
+use crate::answer::{Answer, Outcome, Trial};
+use crate::judging::checked;
 use crate::reading::read_text;
-use crate::solving::{Request, report_on};
+use crate::solving::{Request, report_on, verdict_on};
 use crate::status::Status;
 use crate::stop::Stop;
 use crate::tell::{Untold, tell};
@@ -87,6 +88,7 @@ fn answer_to<R: Threads + Sync, S: Shelf, G: Gate + Sync>(
     ensures texts { S.texts shelf.new ≡ S.texts shelf.old }
     ensures later { S.faults shelf.old ≤ S.faults shelf.new }
     ensures unread { IsMake (map string_bytes words.now) → shelf.new ≡ shelf.old }
+    ensures untouched { IsTrial (map string_bytes words.now) → shelf.new ≡ shelf.old }
 {
     match parse_words(words) {
         Ok(
@@ -105,9 +107,27 @@ fn answer_to<R: Threads + Sync, S: Shelf, G: Gate + Sync>(
             };
             Ok(Answer::Read(solution_of(rt, alloc, gate, &text, request)?))
         }
+        Ok(Command::Check { project, report }) => checked(alloc, shelf, project, report),
         Ok(Command::Show { project }) => {
             let text = read_text(alloc, shelf, project)?;
             Ok(Answer::Read(show_of(alloc, &text)?))
+        }
+        Ok(
+            Command::Trial {
+                seed,
+                jobs,
+                modes,
+                workers,
+                nodes,
+            },
+        ) => {
+            let project = make(alloc, u64::from(seed), jobs, modes)?;
+            let verdict = verdict_on(rt, alloc, gate, &project, workers, nodes)?;
+            Ok(Answer::Tried(Trial {
+                jobs,
+                modes,
+                verdict,
+            }))
         }
         Ok(Command::Make { seed, jobs, modes }) => Ok(Answer::Made(made_text(
             alloc, seed, jobs, modes,
@@ -118,8 +138,9 @@ fn answer_to<R: Threads + Sync, S: Shelf, G: Gate + Sync>(
 
 /// Runs the program on these words: reads the project from the shelf, and writes what there is to tell to the sink.
 ///
-/// The words are `solve PROJECT` and then any of `workers=W`, `nodes=L`, `log=yes` or `log=no`; `show PROJECT`; or
-/// `make SEED JOBS` and then `modes=M` or nothing. All memory is taken before the first byte is written. Each worker of a search
+/// The words are `solve PROJECT` and then any of `workers=W`, `nodes=L`, `log=yes` or `log=no`; `check PROJECT REPORT`;
+/// `show PROJECT`; `make SEED JOBS` and then `modes=M` or nothing; or `trial SEED JOBS` and then any of `modes=M`, `workers=W`,
+/// `nodes=L`. All memory is taken before the first byte is written. Each worker of a search
 /// passes the gate at the start of its part in a round, and after each node that it expanded.
 pub fn run<R: Threads + Sync, S: Shelf, K: Sink, G: Gate + Sync>(
     rt: &R,
@@ -130,8 +151,7 @@ pub fn run<R: Threads + Sync, S: Shelf, K: Sink, G: Gate + Sync>(
     gate: &G,
 ) -> Status
     // What is told is the answer to the words, whole, with its status.
-    ensures told { IsTold result → (answer : Told) × IsAnswerTo (map string_bytes words.now) (S.texts shelf.old) answer
-        × (result ≡ status_of answer) × Gains (K.held out.old) (K.held out.new) (text_of answer) }
+    ensures told { IsTold result → Runs (map string_bytes words.now) (S.texts shelf.old) result (K.held out.old) (K.held out.new) }
 
     // `solve` tells a report on the project under the name, with its log or without. It holds, and what it claims of all
     // schedules is true; its text is accepted; at the limit as many nodes were expanded as the words allow, and one was left;
@@ -155,35 +175,46 @@ pub fn run<R: Threads + Sync, S: Shelf, K: Sink, G: Gate + Sync>(
     ensures ends { WhereSolved (map string_bytes words.now) (S.texts shelf.old) result (K.held out.old) (K.held out.new)
         (λ P report. HasAtMostFronts P (nodes_in (map string_bytes words.now)) → result ≡ Status.Limit → ⊥) }
 
+    // `check` judges the text under the report's name, whatever its origin, as a report on the project under the other: 0 exactly
+    // where it is accepted, with its verdict, and then what it claims, with the schedule in it, is true; and 3 exactly where it
+    // isn't, with the first line that breaks a rule and the reason.
+    ensures judged { IsCheck (map string_bytes words.now) → IsServed result → Judges (map string_bytes words.now) (S.texts shelf.old) result (K.held out.old) (K.held out.new) }
+    ensures refused { result ≡ Status.ReportRefused → IsCheck (map string_bytes words.now) }
+
+    // `trial` tells the verdict of such a report on the made project, with its duration and its lower bound.
+    ensures tried { IsTrial (map string_bytes words.now) → IsSolved result → Tries (map string_bytes words.now) result (K.held out.old) (K.held out.new) }
+
     // A fault of the sink leaves a front of that text.
     ensures cut_off { result ≡ Status.WriteFault → (answer : Told) × IsAnswerTo (map string_bytes words.now) (S.texts shelf.old) answer
         × GainsFront (K.held out.old) (K.held out.new) (text_of answer) }
     ensures write_fault { result ≡ Status.WriteFault → Rose (K.faults out.old) (K.faults out.new) }
 
-    // A fault of the shelf, or want of memory, leaves nothing; the words of a faulty shelf are `solve` or `show`.
+    // A fault of the shelf, or want of memory, leaves nothing; the words of a faulty shelf speak of a project.
     ensures read_fault { result ≡ Status.ReadFault → IsOnProject (map string_bytes words.now) × Rose (S.faults shelf.old) (S.faults shelf.new) }
     ensures silent { (result ≡ Status.ReadFault) ⊎ (result ≡ Status.NoMemory) → Gains (K.held out.old) (K.held out.new) [] }
 
-    // The shelf has its texts as before, and no count of faults falls; `make` leaves the whole shelf alone.
+    // The shelf has its texts as before, and no count of faults falls; `make` and `trial` leave the whole shelf alone.
     ensures texts { S.texts shelf.new ≡ S.texts shelf.old }
     ensures shelf_count { S.faults shelf.old ≤ S.faults shelf.new }
     ensures sink_count { K.faults out.old ≤ K.faults out.new }
     ensures unread { IsMake (map string_bytes words.now) → shelf.new ≡ shelf.old }
+    ensures untouched { IsTrial (map string_bytes words.now) → shelf.new ≡ shelf.old }
 
     // Unless the status is 7 or 8, it is 4 exactly where some word can't stand.
     ensures bad_words { (result ≡ Status.WriteFault → ⊥) → (result ≡ Status.NoMemory → ⊥) → (result ≡ Status.BadWords) ↔ IsSome (bad_word (map string_bytes words.now)) }
 
-    // Where an answer is told, the status is 5 exactly where the words are `solve` or `show` and the text is no project,
-    // and 0, 1 or 2 exactly where it is one, or where the words are `make`; of these, `show` and `make` have 0 alone.
+    // Where an answer is told, the status is 5 exactly where the words speak of a project and the text is none, and 0, 1, 2 or 3
+    // exactly where it is one, or where the words are `make` or `trial`; of these, `show` and `make` have 0 alone.
     ensures bad_project { IsTold result → IfSome (S.texts shelf.old) (λ texts. (result ≡ Status.BadProject) ↔ NamesNoProject (map string_bytes words.now) texts) }
-    ensures solved { IsTold result → IfSome (S.texts shelf.old) (λ texts. IsSolved result ↔ HasProject (map string_bytes words.now) texts) }
-    ensures printed { IsSolved result → IsPrint (map string_bytes words.now) → result ≡ Status.Done }
+    ensures served { IsTold result → IfSome (S.texts shelf.old) (λ texts. IsServed result ↔ HasProject (map string_bytes words.now) texts) }
+    ensures printed { IsServed result → IsPrint (map string_bytes words.now) → result ≡ Status.Done }
 
-    // Where no fault was counted in the call and memory wasn't refused, an answer is told, and a project is solved or
-    // printed; `make` needs no shelf for it.
+    // Where no fault was counted in the call and memory wasn't refused, an answer is told, and a project is solved, a report on
+    // it judged, or its text printed; `make` and `trial` need no shelf for it.
     ensures answers { IsFaultless (S.faults shelf.old) (S.faults shelf.new) → IsFaultless (K.faults out.old) (K.faults out.new) → (result ≡ Status.NoMemory → ⊥) → IsTold result }
     ensures complete { IfSome (S.texts shelf.old) (λ texts. HasProject (map string_bytes words.now) texts
-        → IsFaultless (S.faults shelf.old) (S.faults shelf.new) → IsFaultless (K.faults out.old) (K.faults out.new) → (result ≡ Status.NoMemory → ⊥) → IsSolved result) }
+        → IsFaultless (S.faults shelf.old) (S.faults shelf.new) → IsFaultless (K.faults out.old) (K.faults out.new) → (result ≡ Status.NoMemory → ⊥) → IsServed result) }
+    ensures tries { IsTrial (map string_bytes words.now) → IsFaultless (K.faults out.old) (K.faults out.new) → (result ≡ Status.NoMemory → ⊥) → IsSolved result }
     ensures makes { IsMake (map string_bytes words.now) → IsFaultless (K.faults out.old) (K.faults out.new) → (result ≡ Status.NoMemory → ⊥) → result ≡ Status.Done }
 {
     match answer_to(rt, alloc, words, shelf, gate) {

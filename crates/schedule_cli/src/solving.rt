@@ -3,11 +3,11 @@
 ghost use Rattle.std.specs.Prelude.{◌≡◌, ◌≤◌, IfOk};
 ghost use Rattle.proof_log.specs.Report.{IsReport};
 ghost use Rattle.search_rounds.specs.Found.{report_of, IsFoundFromFirst};
-ghost use Rattle.schedule_cli.specs.Solve.{with_log, IsSearched};
+ghost use Rattle.schedule_cli.specs.Solve.{with_log, IsSearched, IsSearchedTo};
 
 use log_truth::true_claim;
 use project_net::Project;
-use proof_log::Report;
+use proof_log::{Report, Verdict};
 use sched_base::{Gate, NoMemory};
 use search_rounds::{Found, told_report};
 use std::alloc::Global;
@@ -75,4 +75,27 @@ pub fn report_on<R: Threads + Sync, G: Gate + Sync>(
     true_claim();
     let found = found_by(rt, alloc, gate, project, request)?;
     Ok(told(found, request.log))
+}
+
+/// The verdict of the report on a project.
+pub fn verdict_on<R: Threads + Sync, G: Gate + Sync>(
+    rt: &R,
+    alloc: Global,
+    gate: &G,
+    project: &Project,
+    workers: u32,
+    nodes: u32,
+) -> Result<Verdict, NoMemory>
+    requires some { 1 ≤ workers }
+    requires few { workers ≤ 32 }
+    requires nodes { nodes ≤ 100000 }
+    ensures { IfOk result (IsSearchedTo project.now workers nodes) }
+{
+    let request = Request {
+        workers,
+        nodes,
+        log: false,
+    };
+    let report = report_on(rt, alloc, gate, project, request)?;
+    Ok(report.verdict)
 }

@@ -1,12 +1,13 @@
 ghost use Rattle.std.specs.Prelude.{◌≡◌, ◌≤◌, ◌++◌, [], codes, decimal, string_bytes, IfOk, OnOk, Err};
 ghost use Rattle.sched_base.specs.Outside.{Gains, GainsFront, Rose};
-ghost use Rattle.schedule_cli.specs.Answer.{code_of, line, text_of, IsTellable};
+ghost use Rattle.schedule_cli.specs.Answer.{code_of, line, verdict_words, text_of_judgement, size_lines, verdict_lines, text_of_trial, text_of, IsTellable};
 ghost use Rattle.schedule_cli.specs.declared.tell.Untold.TheVariants.{NoMemory, WriteFault};
 
-use crate::answer::{Answer, Outcome};
+use crate::answer::{Answer, Judgement, Outcome, Trial};
 use crate::words::BadWords;
 use proof_log::write_report;
 use psplib_layout::{Fault, Refusal};
+use rcpsp_model::Verdict;
 use sched_base::{Failed, Sink, write_whole};
 use std::alloc::{AllocError, Global};
 
@@ -63,6 +64,73 @@ fn bad_project_line(alloc: Global, code: u8, number: u32) -> Result<String, Allo
     format!(in alloc; "bad project: code {code} line {number}\n")
 }
 
+/// The line that tells of an accepted report.
+fn accepted_line(alloc: Global, verdict: Verdict) -> Result<String, AllocError>
+    ensures { IfOk result (λ s. string_bytes s ≡ codes "accepted " ++ verdict_words verdict) }
+{
+    match verdict {
+        Verdict::Optimal { duration } => format!(in alloc; "accepted optimal {duration}\n"),
+        Verdict::Infeasible => format!(in alloc; "accepted infeasible\n"),
+        Verdict::Limit { lower, .. } => format!(in alloc; "accepted limit {lower}\n"),
+    }
+}
+
+/// The line that tells why a report isn't accepted.
+fn refused_line(alloc: Global, number: u32, reason: u8) -> Result<String, AllocError>
+    ensures { IfOk result (λ s. string_bytes s ≡ codes "report refused: line " ++ (decimal number ++ (codes " reason " ++ line (decimal reason)))) }
+{
+    format!(in alloc; "report refused: line {number} reason {reason}\n")
+}
+
+/// The line that tells what a report comes to.
+fn judgement_line(alloc: Global, judgement: Judgement) -> Result<String, AllocError>
+    ensures { IfOk result (λ s. string_bytes s ≡ text_of_judgement judgement) }
+{
+    match judgement {
+        Judgement::Accepted(verdict) => accepted_line(alloc, verdict),
+        Judgement::Refused { line, reason } => refused_line(alloc, line, reason),
+    }
+}
+
+/// The lines that tell what a made project is.
+fn size_lines(alloc: Global, trial: Trial) -> Result<String, AllocError>
+    ensures { IfOk result (λ s. string_bytes s ≡ size_lines trial.jobs trial.modes) }
+{
+    let jobs = trial.jobs;
+    let modes = trial.modes;
+    format!(in alloc; "jobs {jobs}\nmodes {modes}\n")
+}
+
+/// The lines that tell the verdict on it.
+fn verdict_lines(alloc: Global, verdict: Verdict) -> Result<String, AllocError>
+    ensures { IfOk result (λ s. string_bytes s ≡ verdict_lines verdict) }
+{
+    match verdict {
+        Verdict::Optimal { duration } => {
+            format!(in alloc; "verdict optimal\nduration {duration}\nlower {duration}\n")
+        }
+        Verdict::Infeasible => { format!(in alloc; "verdict infeasible\nduration -\nlower -\n") }
+        Verdict::Limit {
+            duration: None,
+            lower,
+        } => { format!(in alloc; "verdict limit\nduration -\nlower {lower}\n") }
+        Verdict::Limit {
+            duration: Some(duration),
+            lower,
+        } => { format!(in alloc; "verdict limit\nduration {duration}\nlower {lower}\n") }
+    }
+}
+
+/// The lines that tell what a made project comes to.
+fn trial_lines(alloc: Global, trial: Trial) -> Result<String, AllocError>
+    ensures { IfOk result (λ s. string_bytes s ≡ text_of_trial trial) }
+{
+    let mut text = size_lines(alloc, trial)?;
+    let verdict = verdict_lines(alloc, trial.verdict)?;
+    text.push_str(verdict.as_str())?;
+    Ok(text)
+}
+
 /// Writes the text of the answer. All memory is taken before the first byte is written.
 pub fn tell<K: Sink>(alloc: Global, out: &mut K, answer: &Answer) -> Result<(), Untold>
     requires { IsTellable answer.now }
@@ -78,6 +146,14 @@ pub fn tell<K: Sink>(alloc: Global, out: &mut K, answer: &Answer) -> Result<(), 
         Answer::Read(Outcome::BadProject(refusal)) => {
             let line = bad_project_line(alloc, code(refusal.fault), refusal.line)?;
             write_whole(out, line.as_bytes())?;
+        }
+        Answer::Judged(judgement) => {
+            let line = judgement_line(alloc, *judgement)?;
+            write_whole(out, line.as_bytes())?;
+        }
+        Answer::Tried(trial) => {
+            let lines = trial_lines(alloc, *trial)?;
+            write_whole(out, lines.as_bytes())?;
         }
         Answer::BadWords(bad) => {
             let line = bad_words_line(alloc, *bad)?;

@@ -18,6 +18,11 @@ pub enum Command<'w> {
         nodes: u32,
         log: bool,
     },
+    /// Judge the report under a name, as one on the project under this name.
+    Check {
+        project: &'w str,
+        report: &'w str,
+    },
     /// Print the project under this name.
     Show {
         project: &'w str,
@@ -27,6 +32,14 @@ pub enum Command<'w> {
         seed: u32,
         jobs: u8,
         modes: u8,
+    },
+    /// Solve the project that is made so, by so many workers and at most so many expansions.
+    Trial {
+        seed: u32,
+        jobs: u8,
+        modes: u8,
+        workers: u32,
+        nodes: u32,
     },
 }
 
@@ -77,6 +90,26 @@ const MAKE: Options = Options {
     },
 };
 
+/// The options of `trial`.
+const TRIAL: Options = Options {
+    modes: Choice {
+        free: true,
+        value: 1,
+    },
+    workers: Choice {
+        free: true,
+        value: 1,
+    },
+    nodes: Choice {
+        free: true,
+        value: 50_000,
+    },
+    log: Choice {
+        free: false,
+        value: false,
+    },
+};
+
 /// The options that words from this place on give.
 fn parse_options(words: &[String], place: u32, options: Options) -> Result<Options, BadWords>
     requires few { place + length (free_forms options) ≤ 100 }
@@ -111,13 +144,27 @@ pub fn parse_words(words: &[String]) -> Result<Command<'_>, BadWords>
                 log: options.log.value,
             })
         }
+        [command, rest @ ..] if command.as_str() == "check" => {
+            let (project, report) = parse_check(rest)?;
+            Ok(Command::Check { project, report })
+        }
         [command, rest @ ..] if command.as_str() == "show" => {
-            let project = parse_show(rest)?;
+            let project = parse_last_name(rest, 2)?;
             Ok(Command::Show { project })
         }
         [command, rest @ ..] if command.as_str() == "make" => {
             let (seed, jobs, modes) = parse_make(rest)?;
             Ok(Command::Make { seed, jobs, modes })
+        }
+        [command, rest @ ..] if command.as_str() == "trial" => {
+            let (seed, jobs, options) = parse_trial(rest)?;
+            Ok(Command::Trial {
+                seed,
+                jobs,
+                modes: options.modes.value as u8,
+                workers: options.workers.value,
+                nodes: options.nodes.value,
+            })
         }
         _ => Err(BadWords { place: 1 }),
     }
@@ -153,15 +200,32 @@ fn parse_end(words: &[String], place: u32) -> Result<(), BadWords>
     }
 }
 
-/// The name among the words after `show`.
-fn parse_show(words: &[String]) -> Result<&str, BadWords>
-    ensures command { OnOk result (first_bad (is_name ∷ []) [] (map string_bytes words.now) 2 ≡ None) }
-    ensures fault { IfErr result (λ bad. first_bad (is_name ∷ []) [] (map string_bytes words.now) 2 ≡ Some bad.place) }
+/// The name that is the last of the words, from this place on.
+fn parse_last_name(words: &[String], place: u32) -> Result<&str, BadWords>
+    requires { place ≤ 100 }
+    ensures command { OnOk result (first_bad (is_name ∷ []) [] (map string_bytes words.now) place ≡ None) }
+    ensures fault { IfErr result (λ bad. first_bad (is_name ∷ []) [] (map string_bytes words.now) place ≡ Some bad.place) }
     ensures name { IfOk result (λ name. name.now ≡ word_at (map string_bytes words.now) 0) }
 {
     match words {
-        [project, rest @ ..] if !project.is_empty() => match parse_end(rest, 3) {
-            Ok(()) => Ok(project.as_str()),
+        [name, rest @ ..] if !name.is_empty() => match parse_end(rest, place + 1) {
+            Ok(()) => Ok(name.as_str()),
+            Err(bad) => Err(bad),
+        },
+        _ => Err(BadWords { place }),
+    }
+}
+
+/// The names of a project and of a report in the words after `check`.
+fn parse_check(words: &[String]) -> Result<(&str, &str), BadWords>
+    ensures command { OnOk result (first_bad (is_name ∷ is_name ∷ []) [] (map string_bytes words.now) 2 ≡ None) }
+    ensures fault { IfErr result (λ bad. first_bad (is_name ∷ is_name ∷ []) [] (map string_bytes words.now) 2 ≡ Some bad.place) }
+    ensures project { IfOk result (λ names. names.0.now ≡ word_at (map string_bytes words.now) 0) }
+    ensures report { IfOk result (λ names. names.1.now ≡ word_at (map string_bytes words.now) 1) }
+{
+    match words {
+        [project, rest @ ..] if !project.is_empty() => match parse_last_name(rest, 3) {
+            Ok(report) => Ok((project.as_str(), report)),
             Err(bad) => Err(bad),
         },
         _ => Err(BadWords { place: 2 }),
@@ -177,24 +241,57 @@ fn parse_make(words: &[String]) -> Result<(u32, u8, u8), BadWords>
     ensures modes { IfOk result (λ made. made.2 ≡ number_behind (codes "modes=") 1 (drop 2 (map string_bytes words.now))) }
     ensures range { IfOk result (λ made. IsWithinReach (commands.Make made.0 made.1 made.2)) }
 {
+    let (seed, jobs, options) = parse_made(words, MAKE)?;
+    Ok((seed, jobs, options.modes.value as u8))
+}
+
+/// The seed, the number of jobs and the options in the words after `trial`.
+fn parse_trial(words: &[String]) -> Result<(u32, u8, Options), BadWords>
+    ensures command { OnOk result (first_bad (is_seed ∷ is_jobs ∷ []) (modes_form ∷ workers_form ∷ nodes_form ∷ []) (map string_bytes words.now) 2 ≡ None) }
+    ensures fault { IfErr result (λ bad. first_bad (is_seed ∷ is_jobs ∷ []) (modes_form ∷ workers_form ∷ nodes_form ∷ []) (map string_bytes words.now) 2 ≡ Some bad.place) }
+    ensures seed { IfOk result (λ trial. trial.0 ≡ digits_value (word_at (map string_bytes words.now) 0)) }
+    ensures jobs { IfOk result (λ trial. trial.1 ≡ digits_value (word_at (map string_bytes words.now) 1)) }
+    ensures modes { IfOk result (λ trial. trial.2.modes.value ≡ number_behind (codes "modes=") 1 (drop 2 (map string_bytes words.now))) }
+    ensures workers { IfOk result (λ trial. trial.2.workers.value ≡ number_behind (codes "workers=") 1 (drop 2 (map string_bytes words.now))) }
+    ensures nodes { IfOk result (λ trial. trial.2.nodes.value ≡ number_behind (codes "nodes=") 50000 (drop 2 (map string_bytes words.now))) }
+    ensures size { IfOk result (λ trial. (3 ≤ trial.1) × (trial.1 ≤ 128)) }
+    ensures range { IfOk result (λ trial. AreWithin trial.2) }
+{
+    parse_made(words, TRIAL)
+}
+
+/// The seed, the number of jobs and the options in the words of a made project.
+fn parse_made(words: &[String], options: Options) -> Result<(u32, u8, Options), BadWords>
+    requires few { length (free_forms options) ≤ 4 }
+    requires range { AreWithin options }
+    ensures command { OnOk result (first_bad (is_seed ∷ is_jobs ∷ []) (free_forms options) (map string_bytes words.now) 2 ≡ None) }
+    ensures fault { IfErr result (λ bad. first_bad (is_seed ∷ is_jobs ∷ []) (free_forms options) (map string_bytes words.now) 2 ≡ Some bad.place) }
+    ensures seed { IfOk result (λ made. made.0 ≡ digits_value (word_at (map string_bytes words.now) 0)) }
+    ensures jobs { IfOk result (λ made. made.1 ≡ digits_value (word_at (map string_bytes words.now) 1)) }
+    ensures values { IfOk result (λ made. ComeTo options made.2 (drop 2 (map string_bytes words.now)) []) }
+    ensures size { IfOk result (λ made. (3 ≤ made.1) × (made.1 ≤ 128)) }
+    ensures range { IfOk result (λ made. AreWithin made.2) }
+{
     let [word, rest @ ..] = words else {
         return Err(BadWords { place: 2 });
     };
     let Some(seed) = number_within(word.as_bytes(), 0, 999_999_999) else {
         return Err(BadWords { place: 2 });
     };
-    let (jobs, modes) = parse_size(rest)?;
-    Ok((seed, jobs, modes))
+    let (jobs, options) = parse_size(rest, options)?;
+    Ok((seed, jobs, options))
 }
 
-/// The number of jobs and the number of modes in the words after the seed.
-fn parse_size(words: &[String]) -> Result<(u8, u8), BadWords>
-    ensures command { OnOk result (first_bad (is_jobs ∷ []) (modes_form ∷ []) (map string_bytes words.now) 3 ≡ None) }
-    ensures fault { IfErr result (λ bad. first_bad (is_jobs ∷ []) (modes_form ∷ []) (map string_bytes words.now) 3 ≡ Some bad.place) }
+/// The number of jobs and the options in the words after the seed.
+fn parse_size(words: &[String], options: Options) -> Result<(u8, Options), BadWords>
+    requires few { length (free_forms options) ≤ 4 }
+    requires range { AreWithin options }
+    ensures command { OnOk result (first_bad (is_jobs ∷ []) (free_forms options) (map string_bytes words.now) 3 ≡ None) }
+    ensures fault { IfErr result (λ bad. first_bad (is_jobs ∷ []) (free_forms options) (map string_bytes words.now) 3 ≡ Some bad.place) }
     ensures jobs { IfOk result (λ size. size.0 ≡ digits_value (word_at (map string_bytes words.now) 0)) }
-    ensures modes { IfOk result (λ size. size.1 ≡ number_behind (codes "modes=") 1 (drop 1 (map string_bytes words.now))) }
-    ensures some_jobs { IfOk result (λ size. (3 ≤ size.0) × (size.0 ≤ 128)) }
-    ensures some_modes { IfOk result (λ size. (1 ≤ size.1) × (size.1 ≤ 4)) }
+    ensures values { IfOk result (λ size. ComeTo options size.1 (drop 1 (map string_bytes words.now)) []) }
+    ensures size { IfOk result (λ size. (3 ≤ size.0) × (size.0 ≤ 128)) }
+    ensures range { IfOk result (λ size. AreWithin size.1) }
 {
     let [word, rest @ ..] = words else {
         return Err(BadWords { place: 3 });
@@ -202,6 +299,6 @@ fn parse_size(words: &[String]) -> Result<(u8, u8), BadWords>
     let Some(jobs) = number_within(word.as_bytes(), 3, 128) else {
         return Err(BadWords { place: 3 });
     };
-    let options = parse_options(rest, 4, MAKE)?;
-    Ok((jobs as u8, options.modes.value as u8))
+    let options = parse_options(rest, 4, options)?;
+    Ok((jobs as u8, options))
 }

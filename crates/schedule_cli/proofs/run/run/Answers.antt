@@ -1,17 +1,19 @@
 use Rattle.std.proofs.Common.{◌≡◌, ◌∙◌, map, string_bytes}
 use Rattle.schedule_cli.specs.declared.status.Status.TheVariants.{NoMemory}
 use Rattle.schedule_cli.specs.Status.{IsFaultless}
-use Rattle.schedule_cli.proofs.StatusesTold.{told_bad_project, told_solved, told_printed, told_complete, made_is_done}
+use Rattle.schedule_cli.proofs.StatusesTold.{told_bad_project, told_served, told_printed, told_refused, told_tried, told_complete, made_is_done}
 use Rattle.schedule_cli.proofs.ReportsTold.{tells_solution, tells_accepted, tells_no_later, tells_no_twins, tells_ends}
+use Rattle.schedule_cli.proofs.ReportsJudged.{judges}
+use Rattle.schedule_cli.proofs.TrialsTold.{tries}
 use Rattle.schedule_cli.proofs.run.run.Goals as goal
 
 pub returns-in-Ok-tell-clause-bad_project : goal.returns-in-Ok-tell-clause-bad_project
 returns-in-Ok-tell-clause-bad_project g c told =
     told_bad_project (map string_bytes c.args.words.now) (g.S.Shelf.texts c.args.shelf.now) c.in-Ok.answer c.status-status.result c.in-Ok.ensures.answer c.status-status.ensures
 
-pub returns-in-Ok-tell-clause-solved : goal.returns-in-Ok-tell-clause-solved
-returns-in-Ok-tell-clause-solved g c told =
-    told_solved (map string_bytes c.args.words.now) (g.S.Shelf.texts c.args.shelf.now) c.in-Ok.answer c.status-status.result c.in-Ok.ensures.answer c.status-status.ensures
+pub returns-in-Ok-tell-clause-served : goal.returns-in-Ok-tell-clause-served
+returns-in-Ok-tell-clause-served g c told =
+    told_served (map string_bytes c.args.words.now) (g.S.Shelf.texts c.args.shelf.now) c.in-Ok.answer c.status-status.result c.in-Ok.ensures.answer c.status-status.ensures
 
 pub returns-in-Ok-tell-clause-complete : goal.returns-in-Ok-tell-clause-complete
 returns-in-Ok-tell-clause-complete g c =
@@ -49,3 +51,19 @@ pub returns-in-Ok-tell-clause-ends : goal.returns-in-Ok-tell-clause-ends
 returns-in-Ok-tell-clause-ends g c =
     tells_ends (map string_bytes c.args.words.now) (g.S.Shelf.texts c.args.shelf.now) c.in-Ok.answer c.status-status.result (g.K.Sink.held c.args.out.now) (g.K.Sink.held c.tell.new.out) c.in-Ok.ensures.answer
     c.status-status.ensures c.in-Ok-tell.ensures.whole
+
+pub returns-in-Ok-tell-clause-judged : goal.returns-in-Ok-tell-clause-judged
+returns-in-Ok-tell-clause-judged g c =
+    judges (map string_bytes c.args.words.now) (g.S.Shelf.texts c.args.shelf.now) c.in-Ok.answer c.status-status.result (g.K.Sink.held c.args.out.now) (g.K.Sink.held c.tell.new.out) c.in-Ok.ensures.answer
+    c.status-status.ensures c.in-Ok-tell.ensures.whole
+
+pub returns-in-Ok-tell-clause-refused : goal.returns-in-Ok-tell-clause-refused
+returns-in-Ok-tell-clause-refused g c = told_refused (map string_bytes c.args.words.now) (g.S.Shelf.texts c.args.shelf.now) c.in-Ok.answer c.status-status.result c.in-Ok.ensures.answer c.status-status.ensures
+
+pub returns-in-Ok-tell-clause-tried : goal.returns-in-Ok-tell-clause-tried
+returns-in-Ok-tell-clause-tried g c =
+    tries (map string_bytes c.args.words.now) (g.S.Shelf.texts c.args.shelf.now) c.in-Ok.answer c.status-status.result (g.K.Sink.held c.args.out.now) (g.K.Sink.held c.tell.new.out) c.in-Ok.ensures.answer
+    c.status-status.ensures c.in-Ok-tell.ensures.whole
+
+pub returns-in-Ok-tell-clause-tries : goal.returns-in-Ok-tell-clause-tries
+returns-in-Ok-tell-clause-tries g c trial _ _ = told_tried (map string_bytes c.args.words.now) (g.S.Shelf.texts c.args.shelf.now) c.in-Ok.answer c.status-status.result c.in-Ok.ensures.answer c.status-status.ensures trial

@@ -1,0 +1,5 @@
+use Rattle.schedule_cli.proofs.TrialsTold.{same_trial_law}
+use Rattle.schedule_cli.proofs.laws.same_trial.Goals as goal
+
+pub returns : goal.returns
+returns c = same_trial_law
