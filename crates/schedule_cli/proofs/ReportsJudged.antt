@@ -1,19 +1,17 @@
 -- What `check` told, where the answer is one to its words.
-use Rattle.std.proofs.Common.{◌≡◌, ℕ, ◌++◌, inl, inr, refl, sym, ap, subst, ◌∙◌, List, Option, None, Some, true, string_bytes}
+use Rattle.std.proofs.Common.{◌≡◌, ℕ, ◌++◌, inl, inr, refl, sym, subst, ◌∙◌, List, Option, Some}
 use Rattle.std.specs.Prelude.{Ok, Err, Result}
 use Rattle.std.proofs.lemmas.List.{append_cancel_left}
 use Rattle.rcpsp_model.specs.declared.parts.Verdict.{Verdict}
-use Rattle.rcpsp_model.specs.declared.parts.Verdict.TheVariants.{Optimal, Infeasible, Limit}
 use Rattle.rcpsp_model.specs.Project.{Project}
 use Rattle.sched_base.specs.Outside.{Gains, text_under}
 use Rattle.psplib_layout.proofs.OneContent.{one_project}
 use Rattle.psplib_layout.specs.Text.{Reads}
 use Rattle.psplib_reader.proofs.OneReading.{never_both}
-use Rattle.proof_log.specs.declared.report.Report.{Report}
 use Rattle.log_truth.specs.Holds.{Accepts}
 use Rattle.log_checker.specs.declared.refused.Refused.{Refused}
 use Rattle.log_checker.specs.declared.refused.Refused.TheVariants.{Report as broken}
-use Rattle.log_checker.specs.Checker.{AcceptsAs, IsJudgement}
+use Rattle.log_checker.specs.Checker.{AcceptsAs}
 use Rattle.schedule_cli.specs.declared.answer.Answer.{Answer}
 use Rattle.schedule_cli.specs.declared.answer.Answer.TheVariants as answers
 use Rattle.schedule_cli.specs.declared.answer.Judgement.{Judgement}
@@ -21,10 +19,9 @@ use Rattle.schedule_cli.specs.declared.answer.Judgement.TheVariants as judgement
 use Rattle.schedule_cli.specs.declared.answer.Outcome.TheVariants as outcomes
 use Rattle.schedule_cli.specs.declared.status.Status.{Status}
 use Rattle.schedule_cli.specs.declared.status.Status.TheVariants as statuses
-use Rattle.schedule_cli.specs.Words.{IsSolve, IsCheck, IsOnProject, project_name, report_name, prints_log}
-use Rattle.schedule_cli.specs.Status.{IsSolved, IsServed}
-use Rattle.schedule_cli.specs.Judging.{result_of, IsTextUnder, IsJudgementOf}
-use Rattle.schedule_cli.specs.Answer.{IsOutcomeUnder, IsAnswerTo, IsJudgementTo, IsNamed, Judges, Runs, TellsAccepted, status_of, status_of_judgement, text_of, text_of_judgement}
+use Rattle.schedule_cli.specs.Words.{IsCheck, project_name, report_name}
+use Rattle.schedule_cli.specs.Status.{IsServed}
+use Rattle.schedule_cli.specs.Answer.{IsAnswerTo, IsJudgementTo, Judges, status_of, status_of_judgement, text_of, text_of_judgement}
 use Rattle.schedule_cli.specs.Laws.{OwnReportLaw}
 use Rattle.schedule_cli.proofs.CommandWords.{bad_is_none, not_made, not_solved, judged_not_shown, not_tried}
 use Rattle.schedule_cli.proofs.StatusesTold.{asks_solve, asks_show}

@@ -1,5 +1,5 @@
 -- What `trial` told, where the answer is one to its words.
-use Rattle.std.proofs.Common.{◌≡◌, ℕ, ◌≤◌, ◌++◌, inl, inr, arith, refl, sym, ap, subst, ◌∙◌, false, List, Option, None, Some}
+use Rattle.std.proofs.Common.{◌≡◌, ℕ, ◌++◌, inl, inr, arith, refl, sym, ap, subst, ◌∙◌, false, List, Option, None, Some}
 use Rattle.std.proofs.lemmas.List.{append_cancel_left}
 use Rattle.rcpsp_model.specs.declared.parts.Placing.{Placing}
 use Rattle.rcpsp_model.specs.declared.parts.Verdict.{Verdict}
@@ -16,7 +16,7 @@ use Rattle.schedule_cli.specs.declared.status.Status.{Status}
 use Rattle.schedule_cli.specs.declared.status.Status.TheVariants as statuses
 use Rattle.schedule_cli.specs.Words.{IsTrial, project_name, seed_in, jobs_in, modes_in}
 use Rattle.schedule_cli.specs.Status.{IsSolved}
-use Rattle.schedule_cli.specs.Answer.{IsAnswerTo, IsTrialTo, Tries, Runs, status_of, status_of_verdict, text_of, text_of_trial, size_lines, verdict_lines}
+use Rattle.schedule_cli.specs.Answer.{IsAnswerTo, IsTrialTo, Tries, status_of, status_of_verdict, text_of, text_of_trial, size_lines, verdict_lines}
 use Rattle.schedule_cli.specs.Laws.{SameTrialLaw}
 use Rattle.schedule_cli.proofs.CommandWords.{bad_is_none, make_not_tried, not_tried}
 use Rattle.schedule_cli.proofs.StatusesTold.{asks_project, told_tried}

@@ -28,6 +28,8 @@ mod stop;
 mod tell;
 #[cfg(test)]
 mod tests;
+#[cfg(test)]
+mod trial_tests;
 mod words;
 
 use crate::file_shelf::FileShelf;

@@ -106,7 +106,7 @@ fn check_refused<R: Threads + Abort + Sync + AllocGlobal>(rt: &R, words: &str, w
 }
 
 /// Words that are no command, and the place of the first that can't stand.
-const REFUSED: [(&str, u32); 33] = [
+const REFUSED: [(&str, u32); 44] = [
     ("", 1),
     ("--help", 1),
     ("solve", 2),
@@ -123,6 +123,10 @@ const REFUSED: [(&str, u32); 33] = [
     ("solve p nodes=1 workers=2 nodes=1", 5),
     ("solve p nodes=1 workers=2 log=no log=no", 6),
     ("solve p q", 3),
+    ("check", 2),
+    ("check p", 3),
+    ("check p r s", 4),
+    ("check p r log=no", 4),
     ("show", 2),
     ("show p q", 3),
     ("make", 2),
@@ -140,6 +144,13 @@ const REFUSED: [(&str, u32); 33] = [
     ("make 1 3 workers=2", 4),
     ("make 1 3 modes=2 modes=2", 5),
     ("make 1 3 modes=5 modes=2", 4),
+    ("trial", 2),
+    ("trial 1", 3),
+    ("trial 1 2", 3),
+    ("trial 1 3 log=no", 4),
+    ("trial 1 3 workers=33", 4),
+    ("trial 1 3 nodes=1 workers=2 modes=5", 6),
+    ("trial 1 3 modes=1 nodes=1 modes=1", 6),
 ];
 
 #[test]
