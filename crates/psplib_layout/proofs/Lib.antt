@@ -1,4 +1,3 @@
-pub mod Capped
 pub mod Places
 pub mod Keys
 pub mod Steps

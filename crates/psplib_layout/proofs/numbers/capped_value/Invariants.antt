@@ -1,7 +1,0 @@
-use Rattle.std.proofs.Common.{◌≡◌, min, take}
-use Rattle.psplib_lex.specs.Number.{digits_value}
-use Rattle.psplib_layout.specs.declared.numbers.TheConstants.{CAP}
-use Rattle.psplib_layout.proofs.numbers.capped_value.Given as goal
-
-abbrev pub invariant-loop-digit : goal.invariant-loop-digit
-invariant-loop-digit l = l.value ≡ min (digits_value (take l.digit-index l.digits)) CAP
