@@ -1,8 +1,9 @@
--- The tail bound by the eligible and the active jobs.
-use Rattle.std.proofs.Common.{◌≡◌, ℕ, zero, suc, ◌+◌, ◌-◌, ◌<◌, ◌≤◌, max, ◌⊎◌, inl, inr, arith, refl, sym, ap, subst, ◌∙◌, true, false, List, [], ◌∷◌, length, get_or, take}
-use Rattle.std.specs.Prelude.{All, Option, Some, None, sum_by, filter}
-use Rattle.std.proofs.lemmas.Bool.{cases_Bool, cases_lt, both_ways}
+-- The tail bound by the jobs that were eligible before the newest one, and by the active ones.
+use Rattle.std.proofs.Common.{◌≡◌, ℕ, zero, suc, ◌+◌, ◌-◌, ◌<◌, ◌≤◌, max, ◌⊎◌, inl, inr, arith, refl, sym, ap, subst, ◌∙◌, true, false, eqb, List, [], ◌∷◌, length, get_or, take}
+use Rattle.std.specs.Prelude.{◌++◌, All, Option, Some, None, sum_by, filter}
+use Rattle.std.proofs.lemmas.Bool.{cases_Bool, cases_lt, both_ways, eqb-true}
 use Rattle.std.proofs.lemmas.List.Elements.{All-cons, All-nil, All-head, All-more, All-contains, Contains-get_or}
+use Rattle.std.proofs.lemmas.List.Sums.{fold_push}
 use Rattle.std.proofs.Math.Seq.{take-length}
 use Rattle.sched_base.specs.declared.job_set.JobSet.{JobSet}
 use Rattle.sched_base.specs.JobSet.{member, IsNextMember}
@@ -10,20 +11,24 @@ use Rattle.rcpsp_model.specs.declared.parts.Entry.{Entry}
 use Rattle.rcpsp_model.specs.Project.{Project, IsJob, IsAcyclic, Before, is_before, job_count}
 use Rattle.rcpsp_model.specs.Schedule.{finish, end_of}
 use Rattle.rcpsp_model.specs.Chain.{least_duration, IsChain, IsTail, IsGreatest}
-use Rattle.rcpsp_model.specs.Tree.{has_job, last_start, IsEligible, IsFront}
+use Rattle.rcpsp_model.specs.Tree.{has_job, last_start, IsEligible, IsFront, Follows}
 use Rattle.rcpsp_model.specs.Bounds.{ready, TailValue, of_front, of_chain, IsTailBound}
-use Rattle.rcpsp_model.proofs.Lists.{In, In-All, In-filter, filter-In, In-from_Contains, Contains-from_In, sum_by-total}
+use Rattle.rcpsp_model.proofs.Lists.{In, In-All, In-push_new, In-filter, filter-In, In-from_Contains, Contains-from_In, sum_by-total}
 use Rattle.rcpsp_model.proofs.Numbers.{some_decided, both_decided, true_decided, false_decided}
 use Rattle.rcpsp_model.proofs.Entries.{entry_of}
 use Rattle.rcpsp_model.proofs.Usage.{finish-le-end, end-le}
 use Rattle.rcpsp_model.proofs.Fronts.{last-le-end, named-in_turn}
 use Rattle.rcpsp_model.proofs.Tails.{has_tail_law}
-use Rattle.rcpsp_model.proofs.Sound.{IsSound, front-sound}
+use Rattle.rcpsp_model.proofs.Sound.{IsSound, front-sound, has_job-push_cases}
+use Rattle.rcpsp_model.proofs.RootAndLeaves.{front-push}
+use Rattle.rcpsp_model.proofs.BoundsHold.{least_duration-le}
 use Rattle.precedence_tree.specs.declared.active.Active.{Active}
 use Rattle.precedence_tree.specs.Active.{IsActive, AreActive}
 use Rattle.precedence_tree.specs.Frontier.{AreEligible}
-use Rattle.precedence_tree.specs.Node.{joined}
+use Rattle.precedence_tree.specs.declared.base.Base.{Base}
+use Rattle.precedence_tree.specs.Node.{joined, front_before, ContinuesFrom}
 use Rattle.precedence_tree.proofs.Ordered.{no_active}
+use Rattle.precedence_tree.proofs.Pushed.{eligible-before, still-eligible}
 use Rattle.precedence_tree.proofs.Actives.{front-starts, active-has}
 use Rattle.plan_bounds.specs.Tails.{IsZeroOrTail, IsAfter, IsFloorOrAfter}
 
@@ -146,6 +151,13 @@ reach-unplaced P a F f j t job un is =
 reach-eligible : (P : Project) → IsAcyclic P → (F : List Entry) → IsFront P F → (j t : ℕ) → IsEligible P F j → IsTail P j t → Reached P F (last_start F + t)
 reach-eligible P a F f j t el is = let r = reach-unplaced P a F f j t el.job el.unplaced is in (r.0, r.1, let le = r.2 in omega arith)
 
+-- what starts after a placed job leads to its tail from that job's finish
+reach-after : (P : Project) → IsAcyclic P → (F : List Entry) → IsFront P F → (e : Entry) (j t : ℕ) → In F e → Before P e.job j → has_job F j ≡ false → IsTail P j t → Reached P F (finish P e + t)
+reach-after P a F f e j t there before un is =
+    let r = reach-unplaced P a F f j t (a.jobs e.job j before).1 un is in
+    let waits = finish-le-end P (filter (λ (x : Entry). is_before P x.job j) F) e (filter-In (λ (x : Entry). is_before P x.job j) F e there before) in
+    (r.0, r.1, let le = r.2 in omega arith)
+
 reach-active : (P : Project) → IsAcyclic P → (F : List Entry) → IsFront P F → (a : Active) (n : ℕ) → IsActive P F a → IsJob P a.entry.job → IsAfter P a n → Reached P F n
 reach-active P acyclic F f a n act job is =
     let own = has_tail_law P a.entry.job acyclic job in
@@ -153,8 +165,7 @@ reach-active P acyclic F f a n act job is =
     elim (tail-follows P acyclic a.entry.job own.0 own.1) [
       | inl alone ↦ (end_of P F, of_front, let within = finish-le-end P F a.entry there in let same = act.finish in omega arith)
       | inr next ↦
-          let r = reach-unplaced P acyclic F f next.0 next.1 (acyclic.jobs a.entry.job next.0 next.2).1 (unplaced next.0 next.2) next.3 in
-          let waits = finish-le-end P (filter (λ (e : Entry). is_before P e.job next.0) F) a.entry (filter-In (λ (e : Entry). is_before P e.job next.0) F a.entry there next.2) in
+          let r = reach-after P acyclic F f a.entry next.0 next.1 there next.2 (unplaced next.0 next.2) next.3 in
           (r.0, r.1, let le = r.2 in let same = act.finish in let sum = next.4 in omega arith)
     ]
   where
@@ -173,6 +184,65 @@ reach-active P acyclic F f a n act job is =
           absurd (omega arith)
       | inr none ↦ none
     ]
+
+-- Each job of the set leads on to its tail from the last start, and each eligible job is no further from the end than one
+-- of them.
+pub record AreAhead (P : Project) (F : List Entry) (options : JobSet) : Type 0 where
+  pub reached : (j t : ℕ) → 1 ≤ j → member options j ≡ true → IsTail P j t → Reached P F (last_start F + t)
+  pub longer : (j t longest : ℕ) → IsEligible P F j → IsTail P j t → IsGreatest (IsZeroOrTail P options) longest → t ≤ longest
+
+-- at the root the eligible jobs are such
+ahead-root : (P : Project) → IsAcyclic P → (options : JobSet) → AreEligible P [] options → AreAhead P [] options
+ahead-root P a options el = record {
+  reached = λ j t low has is. reach-eligible P a [] tt j t ((el j low).0 has) is;
+  longer = λ j t longest own is long. long.greatest t (inr (j, own.job.0, (el j own.job.0).1 own, is));
+}
+
+-- what starts after the newest job isn't placed
+after-newest : (P : Project) → IsAcyclic P → (G : List Entry) (e : Entry) (j : ℕ) → IsFront P G → Follows P G e → Before P e.job j → has_job (G ++ e ∷ []) j ≡ false
+after-newest P a G e j f follows b = elim (cases_Bool (has_job (G ++ e ∷ []) j)) [
+  | inl has ↦ elim (has_job-push_cases G e j has) [
+    | inl old ↦ absurd (both_ways (has_job G e.job) follows.eligible.unplaced ((front-sound P a G f).closed e.job j b old))
+    | inr own ↦ absurd (let up = a.rises e.job j b in let same = ap a.rank own in omega arith)
+  ]
+  | inr none ↦ none
+]
+
+-- the newest job leads on to its tail from the last start, since it is done no earlier than after its least duration
+reach-newest : (P : Project) → IsAcyclic P → (G : List Entry) (e : Entry) (t : ℕ) → IsFront P G → Follows P G e → IsTail P e.job t → Reached P (G ++ e ∷ []) (last_start (G ++ e ∷ []) + t)
+reach-newest P a G e t f follows is =
+    let F = G ++ e ∷ [] in
+    let there = In-push_new G e in
+    let last = fold_push (λ (_ : ℕ) (y : Entry). y.start) 0 G e in
+    let time = least_duration-le P e.job e.mode follows.mode in
+    elim (tail-follows P a e.job t is) [
+      | inl alone ↦ (end_of P F, of_front, let within = finish-le-end P F e there in omega arith)
+      | inr next ↦
+          let r = reach-after P a F (front-push P G e f follows) e next.0 next.1 there next.2 (after-newest P a G e next.0 f follows next.2) next.3 in
+          (r.0, r.1, let le = r.2 in let sum = next.4 in omega arith)
+    ]
+
+-- after it the jobs that were eligible before are such
+ahead-step : (P : Project) → IsAcyclic P → (G : List Entry) (e : Entry) (options : JobSet) → IsFront P G → Follows P G e → AreEligible P G options → AreAhead P (G ++ e ∷ []) options
+ahead-step P a G e options f follows el = record {
+  reached = λ j t low has is. elim (cases_Bool (eqb e.job j)) [
+    | inl own ↦ reach-newest P a G e t f follows (subst (λ (i : ℕ). IsTail P i t) (sym (eqb-true e.job j own)) is)
+    | inr other ↦ reach-eligible P a (G ++ e ∷ []) (front-push P G e f follows) j t (still-eligible P G e j ((el j low).0 has) other) is
+  ];
+  longer = λ j t longest own is long. elim (eligible-before P G e j own) [
+    | inl before ↦ long.greatest t (inr (j, before.job.0, (el j before.job.0).1 before, is))
+    | inr after ↦
+        let newest = follows.eligible in
+        let tail = has_tail_law P e.job a newest.job in
+        let most = long.greatest tail.0 (inr (e.job, newest.job.0, (el e.job newest.job.0).1 newest, tail.1)) in
+        let less = tail-before P e.job j tail.0 t after tail.1 is in
+        omega arith
+  ];
+}
+
+pub ahead-node : (P : Project) → IsAcyclic P → (o : Option Base) (F : List Entry) (e : Entry) (f : ℕ) (options : JobSet) → ContinuesFrom P o F e f → AreEligible P (front_before o) options → AreAhead P F options
+ahead-node P a None F e f options kept el = subst (λ (G : List Entry). AreAhead P G options) (sym kept.0) (ahead-root P a options el)
+ahead-node P a (Some b) F e f options kept el = subst (λ (G : List Entry). AreAhead P G options) (sym kept.front) (ahead-step P a b.front e options kept.base.front kept.follows el)
 
 -- Each unplaced job is no further from the end than an eligible one.
 pub record IsAhead (P : Project) (F : List Entry) (j i : ℕ) : Type 0 where
@@ -262,9 +332,9 @@ joined-In (Some b) xs a (inl (inl e)) = inl e
 joined-In (Some b) xs a (inl (inr i)) = absurd i
 joined-In (Some b) xs a (inr i) = inr i
 
-pub bound-from : (P : Project) → IsAcyclic P → (F : List Entry) (o : Option Active) (xs : List Active) (options : JobSet) (last end longest first newest bound : ℕ) → IsFront P F → AreActive P F (joined o xs) → AreEligible P F options →
+pub bound-from : (P : Project) → IsAcyclic P → (F : List Entry) (o : Option Active) (xs : List Active) (options : JobSet) (last end longest first newest bound : ℕ) → IsFront P F → AreActive P F (joined o xs) → AreAhead P F options →
     last ≡ last_start F → end ≡ end_of P F → IsGreatest (IsZeroOrTail P options) longest → first ≡ max end (last + longest) → IsGreatest (IsFloorOrAfter P (joined o []) first) newest → IsGreatest (IsFloorOrAfter P xs newest) bound → IsTailBound P F bound
-bound-from P a F o xs options last end longest first newest bound f are el is_last is_end long now by_newest by_older = bound-is P a F (joined o xs) bound f are covers reached
+bound-from P a F o xs options last end longest first newest bound f are ahead_of is_last is_end long now by_newest by_older = bound-is P a F (joined o xs) bound f are covers reached
   where
     low : first ≤ newest
     low = by_newest.greatest first (inl refl)
@@ -275,7 +345,7 @@ bound-from P a F o xs options last end longest first newest bound f are el is_la
     covers : Covers P F (joined o xs) bound
     covers = record {
       end = let x = low in let y = high in omega arith;
-      eligible = λ j t own tail. let le = long.greatest t (inr (j, own.job.0, (el j own.job.0).1 own, tail)) in let x = low in let y = high in omega arith;
+      eligible = λ j t own tail. let le = ahead_of.longer j t longest own tail long in let x = low in let y = high in omega arith;
       active = λ b u i after. elim (In-joined o xs b i) [
         | inl m ↦ let le = by_newest.greatest u (inr (b, Contains-from_In (joined o []) b m, after)) in let y = high in omega arith
         | inr m ↦ by_older.greatest u (inr (b, Contains-from_In xs b m, after))
@@ -291,7 +361,7 @@ bound-from P a F o xs options last end longest first newest bound f are el is_la
     start = elim long.attained [
       | inl none ↦ (end_of P F, of_front, let within = last-le-end P F in omega arith)
       | inr j ↦ elim (cases_lt end (last + longest)) [
-        | inl more ↦ let r = reach-eligible P a F f j.0 longest ((el j.0 j.1).0 j.2) j.3 in (r.0, r.1, let le = r.2 in omega arith)
+        | inl more ↦ let r = ahead_of.reached j.0 longest j.1 j.2 j.3 in (r.0, r.1, let le = r.2 in omega arith)
         | inr less ↦ (end_of P F, of_front, omega arith)
       ]
     ]

@@ -72,7 +72,8 @@ fn latest_after_newest(project: &Project, newest: Option<Active>, floor: u32) ->
 /// The tail bound of a node.
 ///
 /// A chain of unplaced jobs begins with a job that waits for an active one or for none, and then is no longer than one
-/// from an eligible job on: so these jobs alone are asked.
+/// from an eligible job on. A job that the newest one made eligible is ahead of no more than the newest one itself: so the
+/// active jobs are asked, and those that were eligible before.
 pub fn tail_bound_of(project: &Project, node: &Node) -> u32
     requires { StandsFor project.now node.now }
     ensures value { IsTailBound project.now node.now.front result }
@@ -81,7 +82,7 @@ pub fn tail_bound_of(project: &Project, node: &Node) -> u32
     project.known();
     let older = node.older_active(project);
     let newest = node.newest_active();
-    let ahead = node.last() + longest_tail(project, node.eligible(project));
+    let ahead = node.last() + longest_tail(project, node.eligible_before(project));
     let first = node.end().max(ahead);
     let bound = latest_after_newest(project, newest, first);
     latest_after(project, older, bound)

@@ -13,8 +13,8 @@ use Rattle.rcpsp_model.specs.Chain.{IsLeast}
 use Rattle.rcpsp_model.specs.Modes.{least_need, least_work}
 use Rattle.rcpsp_model.specs.Tree.{has_job, rest_need, entry_at, extended, IsEligible, IsFront, Follows, HasGap, LeavesBudgets}
 use Rattle.rcpsp_model.proofs.Lists.{In-All, In-push_new}
-use Rattle.rcpsp_model.proofs.Entries.{has_job-push_false}
-use Rattle.rcpsp_model.proofs.Sound.{has_job-push_cases}
+use Rattle.rcpsp_model.proofs.Entries.{has_job-push_false, has_job-push_none}
+use Rattle.rcpsp_model.proofs.Sound.{has_job-push_cases, has_job-push_true}
 use Rattle.rcpsp_model.proofs.Fronts.{in_turn, front-of}
 use Rattle.rcpsp_model.proofs.RootAndLeaves.{front-push}
 use Rattle.rcpsp_model.proofs.ChildLists.{used-start, rest_need-start}
@@ -63,27 +63,39 @@ eligible-open P F placed j a has el = record {
 pub eligible-none : (P : Project) (F : List Entry) (placed set : JobSet) → IsAcyclic P → HasJobs F placed → ((j : ℕ) → 1 ≤ j → (member set j ≡ true) ↔ IsOpenBeside P placed j) → AreEligible P F set
 eligible-none P F placed set a has are j low = let both = are j low in (λ e. open-eligible P F placed j a has (both.0 e), λ el. both.1 (eligible-open P F placed j a has el))
 
--- what becomes eligible follows the job that was placed
+-- what is eligible was so before, or follows the job that was placed
+pub eligible-before : (P : Project) (F : List Entry) (e : Entry) (j : ℕ) → IsEligible P (F ++ e ∷ []) j → IsEligible P F j ⊎ Before P e.job j
+eligible-before P F e j el = elim (cases_Bool (is_before P e.job j)) [
+  | inl follows ↦ inr follows
+  | inr other ↦ inl (record {
+    job = el.job;
+    unplaced = (has_job-push_false F e j el.unplaced).0;
+    preds = λ i b. elim (has_job-push_cases F e i (el.preds i b)) [
+      | inl there ↦ there
+      | inr mine ↦ absurd (both_ways (is_before P e.job j) other (subst (λ (k : ℕ). is_before P k j ≡ true) (sym mine) b))
+    ];
+  })
+]
+
+-- and what was so is so still, but for that job
+pub still-eligible : (P : Project) (F : List Entry) (e : Entry) (j : ℕ) → IsEligible P F j → eqb e.job j ≡ false → IsEligible P (F ++ e ∷ []) j
+still-eligible P F e j el other = record {
+  job = el.job;
+  unplaced = has_job-push_none F e j el.unplaced other;
+  preds = λ i b. has_job-push_true F e i (el.preds i b);
+}
+
 pub eligible-push : (P : Project) (F : List Entry) (e : Entry) (placed old next : JobSet) → IsAcyclic P → HasJobs (F ++ e ∷ []) placed → AreEligible P F old →
     ((j : ℕ) → 1 ≤ j → (member next j ≡ true) ↔ (((member old j ≡ true) ⊎ Before P e.job j) × IsOpenBeside P placed j)) → AreEligible P (F ++ e ∷ []) next
 eligible-push P F e placed old next a has before are j low =
     let both = are j low in (
       λ m. open-eligible P (F ++ e ∷ []) placed j a has (both.0 m).1,
-      λ el. both.1 (from el, eligible-open P (F ++ e ∷ []) placed j a has el),
+      λ el. both.1 (from (eligible-before P F e j el), eligible-open P (F ++ e ∷ []) placed j a has el),
     )
   where
-    from : IsEligible P (F ++ e ∷ []) j → (member old j ≡ true) ⊎ Before P e.job j
-    from el = elim (cases_Bool (is_before P e.job j)) [
-      | inl follows ↦ inr follows
-      | inr other ↦ inl ((before j low).1 (record {
-        job = el.job;
-        unplaced = (has_job-push_false F e j el.unplaced).0;
-        preds = λ i b. elim (has_job-push_cases F e i (el.preds i b)) [
-          | inl there ↦ there
-          | inr mine ↦ absurd (both_ways (is_before P e.job j) other (subst (λ (k : ℕ). is_before P k j ≡ true) (sym mine) b))
-        ];
-      }))
-    ]
+    from : IsEligible P F j ⊎ Before P e.job j → (member old j ≡ true) ⊎ Before P e.job j
+    from (inl was) = inl ((before j low).1 was)
+    from (inr follows) = inr follows
 
 -- Needs and works.
 

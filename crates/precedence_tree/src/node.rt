@@ -7,7 +7,7 @@ ghost use Rattle.precedence_tree.specs.Active.{AreActive, AreByFinish};
 ghost use Rattle.precedence_tree.specs.Needs.{AreNeeds, AreWorks, open_work};
 ghost use Rattle.precedence_tree.specs.Frontier.{AreEligible};
 ghost use Rattle.precedence_tree.specs.Base.{IsBaseOf};
-ghost use Rattle.precedence_tree.specs.Node.{StandsFor, newest_of, joined};
+ghost use Rattle.precedence_tree.specs.Node.{StandsFor, front_before, newest_of, joined};
 
 use crate::active::{Active, done_by};
 use crate::base::Expansion;
@@ -284,6 +284,18 @@ impl Node {
                 let job = self.entry.job;
                 open_after(project, base.eligible, base.placed.with(Job(job)), job)
             }
+            None => open_jobs(project, JobSet::empty()),
+        }
+    }
+
+    /// The jobs that could be placed next before the last one was; at the root those that can be.
+    pub fn eligible_before(&self, project: &Project) -> JobSet
+        requires { StandsFor project.now self.now }
+        ensures { AreEligible project.now (front_before self.now.base) result }
+    {
+        project.known();
+        match &self.base {
+            Some(base) => base.base().eligible,
             None => open_jobs(project, JobSet::empty()),
         }
     }

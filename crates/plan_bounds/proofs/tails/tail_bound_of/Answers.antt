@@ -7,7 +7,7 @@ use Rattle.precedence_tree.specs.Node.{joined}
 use Rattle.precedence_tree.proofs.Actives.{active-named}
 use Rattle.precedence_tree.proofs.Parts.{older-all, newest-all}
 use Rattle.plan_bounds.proofs.Parts.{active-ends}
-use Rattle.plan_bounds.proofs.TailSteps.{bound-from}
+use Rattle.plan_bounds.proofs.TailSteps.{ahead-node, bound-from}
 use Rattle.plan_bounds.proofs.tails.tail_bound_of.Goals as goal
 
 pub overflow_add-ahead : goal.overflow_add-ahead
@@ -51,6 +51,6 @@ latest_after-requires-clause-finishes c =
 
 pub returns-clause-value : goal.returns-clause-value
 returns-clause-value c =
-    bound-from c.args.project.now c.known.ensures.acyclic c.args.node.now.front c.newest_active-newest.result c.older_active-older.result.now c.eligible.result c.last.result c.end.result c.longest_tail.result c.max-first.result c.latest_after_newest-bound.result c.latest_after.result c.requires.front
+    bound-from c.args.project.now c.known.ensures.acyclic c.args.node.now.front c.newest_active-newest.result c.older_active-older.result.now c.eligible_before.result c.last.result c.end.result c.longest_tail.result c.max-first.result c.latest_after_newest-bound.result c.latest_after.result c.requires.front
     (subst (λ (o : Option Active). AreActive c.args.project.now c.args.node.now.front (joined o c.older_active-older.result.now)) (sym c.newest_active-newest.ensures) c.older_active-older.ensures.active)
-    c.eligible.ensures c.last.ensures (c.end.ensures ∙ c.requires.end) c.longest_tail.ensures.value c.max-first.ensures c.latest_after_newest-bound.ensures.value c.latest_after.ensures.value
+    (ahead-node c.args.project.now c.known.ensures.acyclic c.args.node.now.base c.args.node.now.front c.args.node.now.entry c.args.node.now.finish c.eligible_before.result c.requires.kept c.eligible_before.ensures) c.last.ensures (c.end.ensures ∙ c.requires.end) c.longest_tail.ensures.value c.max-first.ensures c.latest_after_newest-bound.ensures.value c.latest_after.ensures.value
