@@ -10,7 +10,7 @@ use Rattle.std.proofs.lemmas.List.Splits.{join_with_byte-slice_split, length-sli
 use Rattle.proof_log.specs.Line.{IsNumber}
 use Rattle.proof_log.specs.Reading.{number_in, words_in}
 use Rattle.proof_log.proofs.NumberWords.{chosen, only, mapped, bound, same_word, number_found, number_again, digits_of_number}
-use Rattle.proof_log.proofs.CutParts.{is_above, parts_true, joined_parts}
+use Rattle.proof_log.proofs.CutParts.{is_above, parts_true, joined_parts, joined_above}
 use Rattle.window_refuter.specs.declared.step.BoundStep.{BoundStep}
 use Rattle.window_refuter.specs.declared.step.BoundStep.TheVariants.{Head, Tail, Disjoint, Work, Empty}
 use Rattle.window_refuter.specs.declared.line.BoundLine.{BoundLine}
@@ -233,6 +233,11 @@ unfolding words_in line_text
 text_found bytes line h =
     let found = line_found (words_in bytes) line h in
     (found.0, sym (ap (join_with_byte 32) found.1 ∙ join_with_byte-slice_split 32 bytes))
+
+-- no LF stands in the text of a line
+pub text_above : (line : BoundLine) → IsLine line → is_above 10 (line_text line) ≡ true
+unfolding line_text
+text_above line is = joined_above (line_words line) (words_above line is)
 
 -- no line has more than four words
 pub no_fifth : (a b c d bytes : List ℕ) → line_in (a ∷ b ∷ c ∷ d ∷ words_in bytes) ≡ None

@@ -1,4 +1,4 @@
-ghost use Rattle.std.specs.Prelude.{IfOk};
+ghost use Rattle.std.specs.Prelude.{◌≤◌, IfOk};
 ghost use Rattle.rcpsp_model.specs.Claim.{NoneEndsBefore};
 ghost use Rattle.window_refuter.specs.Refuted.{ShowsBound, IsWindowBound};
 
@@ -28,6 +28,7 @@ pub struct WindowBound {
 pub fn window_bound(alloc: Global, project: &Project) -> Result<WindowBound, NoMemory>
     ensures bound { IfOk result (λ w. IsWindowBound project.now w.bound) }
     ensures steps { IfOk result (λ w. ShowsBound project.now w.bound w.steps) }
+    ensures limit { IfOk result (λ w. w.bound ≤ 1290001) }
     ensures sound { IfOk result (λ w. NoneEndsBefore project.now w.bound) }
 {
     project.known();

@@ -7,6 +7,7 @@ abbrev pub invariant-loop-low : goal.invariant-loop-low
 invariant-loop-low l = record {
   order : l.low ≤ l.high;
   most : l.high ≤ horizon l.project + 1;
+  limit : l.high ≤ 1290001;
   none : l.high ≤ horizon l.project → NoneRefutes l.project l.high;
   shows : ShowsBound l.project l.low l.steps;
 }
