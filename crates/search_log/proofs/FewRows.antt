@@ -16,23 +16,23 @@ use Rattle.search_log.proofs.Sums.{total-one, over-one}
 use Rattle.search_log.proofs.PassedPlaces.{below-rows}
 use Rattle.search_log.proofs.ToldLogs.{places-expanded}
 
-few-children : (P : Project) (v : Verdict) (ns : List TreeNode) (p : ℕ) (o : Option (List Entry)) (s : RowSaying) → IsWithinLimits P → Suits P v ns p o s → total (λ q. 1) (children_of s) ≤ 512 * one_expanded s
-few-children P v ns p (Some F) (row_expanded first count) w is =
+few-children : (P : Project) (v : Verdict) (ns : List TreeNode) (o : Option (List Entry)) (s : RowSaying) → IsWithinLimits P → Suits P v ns o s → total (λ q. 1) (children_of s) ≤ 512 * one_expanded s
+few-children P v ns (Some F) (row_expanded first count) w is =
     let a = total-one (numbers_from first count) in
     let b = length-map (numbers_from first count) (branch_at ns) in
     let c : length (map (branch_at ns) (numbers_from first count)) ≡ length (child_branches P F) = ap length is.children in
     let d = length-map (choices P F) (λ (x : Choice). by_choice F x) in
     let e = few_choices P F w in
     omega arith
-few-children P v ns p (Some F) row_open w is = omega arith
-few-children P v ns p (Some F) (row_late reason) w is = omega arith
-few-children P v ns p (Some F) (row_cites q) w is = omega arith
-few-children P v ns p (Some F) (row_shut why) w is = absurd is
-few-children P v ns p None row_open w is = absurd is
-few-children P v ns p None (row_expanded first count) w is = absurd is
-few-children P v ns p None (row_late reason) w is = absurd is
-few-children P v ns p None (row_cites q) w is = absurd is
-few-children P v ns p None (row_shut why) w is = omega arith
+few-children P v ns (Some F) row_open w is = omega arith
+few-children P v ns (Some F) (row_late reason) w is = omega arith
+few-children P v ns (Some F) (row_cites q) w is = omega arith
+few-children P v ns (Some F) (row_shut why) w is = absurd is
+few-children P v ns None row_open w is = absurd is
+few-children P v ns None (row_expanded first count) w is = absurd is
+few-children P v ns None (row_late reason) w is = absurd is
+few-children P v ns None (row_cites q) w is = absurd is
+few-children P v ns None (row_shut why) w is = omega arith
 
 -- where each place weighs little in the one way, all do together
 over-le : {X : Type 0} (f g : ℕ → ℕ) (m k : ℕ) (xs : List X) → ((p : ℕ) → k ≤ p → p < k + length xs → f p ≤ m * g p) → over (λ p x. f p) k xs ≤ m * over (λ p x. g p) k xs
@@ -48,5 +48,5 @@ room_law P v T ns ws w s =
     let b = over-one 0 T in
     let c = below-rows T (λ q. 1) in
     let d = places-expanded T in
-    let e = over-le (λ p. total (λ q. 1) (children_of (says_at T p))) (λ p. one_expanded (says_at T p)) 512 0 T (λ p l m. few-children P v ns p (place_front ns p) (says_at T p) w (s.rows p (omega arith)).says) in
+    let e = over-le (λ p. total (λ q. 1) (children_of (says_at T p))) (λ p. one_expanded (says_at T p)) 512 0 T (λ p l m. few-children P v ns (place_front ns p) (says_at T p) w (s.rows p (omega arith)).says) in
     omega arith

@@ -64,8 +64,8 @@ fill-open P v T ns f fs ws s =
 
 filled-suits : (P : Project) (v : Verdict) (ns : List TreeNode) (f : Fill) (r : Row) → says_row r ≡ row_open → RowSuits P v ns f.place r → FillSuits P v ns f → RowSuits P v ns f.place (filled r f.fate)
 filled-suits P v ns f r e is new =
-    let was : Suits P v ns f.place (place_front ns f.place) row_open = subst (λ (x : RowSaying). Suits P v ns f.place (place_front ns f.place) x) e is.says in
-    let unshut = suits-unshut P v v ns f.place (place_front ns f.place) (row_saying f.fate) was new.says in
+    let was : Suits P v ns (place_front ns f.place) row_open = subst (λ (x : RowSaying). Suits P v ns (place_front ns f.place) x) e is.says in
+    let unshut = suits-unshut P v v ns (place_front ns f.place) (row_saying f.fate) was new.says in
     record {
       line = filled-line P (branch_at ns f.place) r f.fate e unshut is.line;
       front = filled-front (branch_at ns f.place) r f.fate e unshut ∙ is.front;

@@ -63,32 +63,32 @@ branches-more ns more i (suc n) l =
     let ih = branches-more ns more (i + 1) n (omega arith) in
     ap (λ (x : Branch). x ∷ map (branch_at (ns ++ more)) (numbers_from (i + 1) n)) own ∙ ap (λ (x : List Branch). branch_at ns i ∷ x) ih
 
-pub children-more : (P : Project) (ns more : List TreeNode) (p : ℕ) (F : List Entry) (first count : ℕ) → HasChildren P ns p F first count → HasChildren P (ns ++ more) p F first count
-children-more P ns more p F first count is =
+pub children-more : (P : Project) (ns more : List TreeNode) (F : List Entry) (first count : ℕ) → HasChildren P ns F first count → HasChildren P (ns ++ more) F first count
+children-more P ns more F first count is =
     let w = is.within in
     let n = length-append ns more in
-    record { inner = is.inner; after = is.after; within = omega arith; children = branches-more ns more first count w ∙ is.children }
+    record { inner = is.inner; within = omega arith; children = branches-more ns more first count w ∙ is.children }
 
-suits-more : (P : Project) (v : Verdict) (ns more : List TreeNode) (p : ℕ) (o : Option (List Entry)) (s : RowSaying) → Suits P v ns p o s → Suits P v (ns ++ more) p o s
-suits-more P v ns more p (Some F) row_open is = tt
-suits-more P v ns more p (Some F) (row_expanded first count) is = children-more P ns more p F first count is
-suits-more P v ns more p (Some F) (row_late reason) is = is
-suits-more P v ns more p (Some F) (row_cites q) is = tt
-suits-more P v ns more p (Some F) (row_shut why) is = is
-suits-more P v ns more p None row_open is = is
-suits-more P v ns more p None (row_expanded first count) is = is
-suits-more P v ns more p None (row_late reason) is = is
-suits-more P v ns more p None (row_cites q) is = is
-suits-more P v ns more p None (row_shut why) is = tt
+suits-more : (P : Project) (v : Verdict) (ns more : List TreeNode) (o : Option (List Entry)) (s : RowSaying) → Suits P v ns o s → Suits P v (ns ++ more) o s
+suits-more P v ns more (Some F) row_open is = tt
+suits-more P v ns more (Some F) (row_expanded first count) is = children-more P ns more F first count is
+suits-more P v ns more (Some F) (row_late reason) is = is
+suits-more P v ns more (Some F) (row_cites q) is = tt
+suits-more P v ns more (Some F) (row_shut why) is = is
+suits-more P v ns more None row_open is = is
+suits-more P v ns more None (row_expanded first count) is = is
+suits-more P v ns more None (row_late reason) is = is
+suits-more P v ns more None (row_cites q) is = is
+suits-more P v ns more None (row_shut why) is = tt
 
 pub row-more : (P : Project) (v : Verdict) (ns more : List TreeNode) (p : ℕ) (r : Row) → p < length ns → RowSuits P v ns p r → RowSuits P v (ns ++ more) p r
 row-more P v ns more p r l is =
     let same : node_at (ns ++ more) p ≡ node_at ns p = get_or_append_left ns more no_node p l in
-    let says = suits-more P v ns more p (place_front ns p) (says_row r) is.says in
+    let says = suits-more P v ns more (place_front ns p) (says_row r) is.says in
     record {
       line = subst (λ (n : TreeNode). IsLineAt P n.branch (line_of [] r)) (sym same) is.line;
       front = subst (λ (n : TreeNode). front_at n.branch (line_of [] r) ≡ n.front) (sym same) is.front;
-      says = subst (λ (n : TreeNode). Suits P v (ns ++ more) p n.front (says_row r)) (sym same) says;
+      says = subst (λ (n : TreeNode). Suits P v (ns ++ more) n.front (says_row r)) (sym same) says;
     }
 
 -- The rows of children.
@@ -98,7 +98,7 @@ placed-row : (P : Project) (v : Verdict) (ns : List TreeNode) (p : ℕ) (F : Lis
 placed-row P v ns p F c t e is = record {
   line = subst (λ (n : TreeNode). IsLineAt P n.branch (line_of [] (child_row c (Some t) Open))) (sym e) (record { job = refl; mode = refl; fate = (is, refl) });
   front = subst (λ (n : TreeNode). front_at n.branch (line_of [] (child_row c (Some t) Open)) ≡ n.front) (sym e) refl;
-  says = subst (λ (n : TreeNode). Suits P v ns p n.front row_open) (sym e) tt;
+  says = subst (λ (n : TreeNode). Suits P v ns n.front row_open) (sym e) tt;
 }
 
 shut-saying : (P : Project) (F : List Entry) (c : Choice) (why : Why) → IsShut P F c.job c.mode why → IsShutSaying P F c (saying (shut_fate why))
@@ -111,7 +111,7 @@ shut-row : (P : Project) (v : Verdict) (ns : List TreeNode) (p : ℕ) (F : List 
 shut-row P v ns p F c why e is = record {
   line = subst (λ (n : TreeNode). IsLineAt P n.branch (line_of [] (child_row c None (Shut why)))) (sym e) (record { job = refl; mode = refl; fate = shut-saying P F c why is });
   front = subst (λ (n : TreeNode). front_at n.branch (line_of [] (child_row c None (Shut why))) ≡ n.front) (sym e) refl;
-  says = subst (λ (n : TreeNode). Suits P v ns p n.front (row_shut why)) (sym e) tt;
+  says = subst (λ (n : TreeNode). Suits P v ns n.front (row_shut why)) (sym e) tt;
 }
 
 pub child_rows_law : ChildRowsLaw
@@ -127,9 +127,9 @@ branches-behind before (n ∷ more) i e =
     ap (λ (x : Branch). x ∷ map (branch_at (before ++ n ∷ more)) (numbers_from (i + 1) (length more))) own ∙ ap (λ (x : List Branch). n.branch ∷ x) ih
 
 pub child_places_law : ChildPlacesLaw
-child_places_law P ns more p F inner l e =
+child_places_law P ns more F inner e =
     let len = length-append ns more in
-    record { inner = inner; after = l; within = omega arith; children = branches-behind ns more (length ns) refl ∙ e }
+    record { inner = inner; within = omega arith; children = branches-behind ns more (length ns) refl ∙ e }
 
 over-along : {X : Type 0} (g : ℕ → X → ℕ) (k m : ℕ) (xs : List X) → k ≡ m → over g k xs ≡ over g m xs
 over-along g k m xs e = ap (λ (n : ℕ). over g n xs) e
@@ -180,11 +180,11 @@ fill-more P first best ns more f l is =
     let w = is.within in
     let len = length-append ns more in
     let same : place_front (ns ++ more) f.place ≡ place_front ns f.place = ap (λ (n : TreeNode). n.front) (get_or_append_left ns more no_node f.place w) in
-    let later = searching-suits P first best ns f.place (place_front ns f.place) (row_saying f.fate) l is.says in
+    let later = searching-suits P first best ns (place_front ns f.place) (row_saying f.fate) l is.says in
     record {
       within = omega arith;
       closed = is.closed;
-      says = subst (λ (o : Option (List Entry)). Suits P (searching best) (ns ++ more) f.place o (row_saying f.fate)) (sym same) (suits-more P (searching best) ns more f.place (place_front ns f.place) (row_saying f.fate) later);
+      says = subst (λ (o : Option (List Entry)). Suits P (searching best) (ns ++ more) o (row_saying f.fate)) (sym same) (suits-more P (searching best) ns more (place_front ns f.place) (row_saying f.fate) later);
     }
 
 pub gather_law : GatherLaw

@@ -11,16 +11,18 @@ use Rattle.rcpsp_model.specs.Project.{Project, numbers_from, jobs, job_count, mo
 use Rattle.rcpsp_model.specs.Tree.{Choice, choices_of, choices, is_eligible, entry_at}
 use Rattle.rcpsp_model.proofs.Lists.{In, Contains-from_In}
 use Rattle.rcpsp_model.proofs.Choices.{In-map}
+use Rattle.rcpsp_model.proofs.LeastModes.{numbers-range}
+use Rattle.proof_log.specs.declared.report.LogLine.{LogLine}
 use Rattle.log_truth.specs.Fates.{shuts}
 use Rattle.log_truth.specs.Log.{Branch, at_root, by_choice, says, extended_by, front_at, child_branches}
 use Rattle.log_truth.proofs.LineFronts.{root_front-is}
 use Rattle.search_log.specs.declared.row.Row.{Row}
-use Rattle.search_log.specs.Weights.{total, over}
+use Rattle.search_log.specs.Weights.{total, over, Each}
 use Rattle.search_log.specs.Fates.{RowSaying, row_open, row_expanded, row_late, row_cites, row_shut}
-use Rattle.search_log.specs.Table.{no_row, row_at, says_at, children_of}
+use Rattle.search_log.specs.Table.{no_row, row_at, says_at, children_of, IsBelow}
 use Rattle.search_log.specs.Stands.{line_of, TreeNode, branch_at, place_front, HasChildren, Suits, Waiting, Stands}
 use Rattle.search_log.specs.Laws.{OneFrontLaw, ParentLaw}
-use Rattle.search_log.proofs.Sums.{total-append, total-map, only_at, only_at-same, only_at-other, place-once, In-from_weight, weighs-one}
+use Rattle.search_log.proofs.Sums.{total-append, total-map, Each-from_In, only_at, only_at-same, only_at-other, place-once, In-from_weight, weighs-one}
 use Rattle.search_log.proofs.PassedPlaces.{below, below-rows}
 
 -- A front has each choice once.
@@ -100,9 +102,9 @@ two-weigh h (x ∷ xs) p q (inr i) (inl f) d = let same : h x ≡ h q = ap h f i
 two-weigh h (x ∷ xs) p q (inr i) (inr k) d = let ih = two-weigh h xs p q i k d in omega arith
 
 -- two children of one front by one choice are one
-children-apart : (P : Project) (ns : List TreeNode) (at : ℕ) (G : List Entry) (first count : ℕ) (c : Choice) (p q : ℕ) → HasChildren P ns at G first count → In (numbers_from first count) p → In (numbers_from first count) q →
+children-apart : (P : Project) (ns : List TreeNode) (G : List Entry) (first count : ℕ) (c : Choice) (p q : ℕ) → HasChildren P ns G first count → In (numbers_from first count) p → In (numbers_from first count) q →
     branch_at ns p ≡ by_choice G c → branch_at ns q ≡ by_choice G c → p ≡ q
-children-apart P ns at G first count c p q children i k e f =
+children-apart P ns G first count c p q children i k e f =
     elim (cases_eq p q) [
       | inl same ↦ same
       | inr d ↦ absurd (
@@ -128,7 +130,7 @@ pub record HasParent (P : Project) (T : List Row) (ns : List TreeNode) (q : ℕ)
   pub first : ℕ
   pub count : ℕ
   pub says : says_at T place ≡ row_expanded first count
-  pub children : HasChildren P ns place front first count
+  pub children : HasChildren P ns front first count
   pub among : In (numbers_from first count) q
   pub choice : Choice
   pub branch : branch_at ns q ≡ by_choice front choice
@@ -142,40 +144,40 @@ weighs-somewhere g k (x ∷ xs) l =
     ]
 
 -- the front of a row that has children
-record HasFront (P : Project) (ns : List TreeNode) (p : ℕ) (o : Option (List Entry)) (s : RowSaying) (q : ℕ) : Type 0 where
+record HasFront (P : Project) (ns : List TreeNode) (o : Option (List Entry)) (s : RowSaying) (q : ℕ) : Type 0 where
   front : List Entry
   is_its : o ≡ Some front
   first : ℕ
   count : ℕ
   says : s ≡ row_expanded first count
-  children : HasChildren P ns p front first count
+  children : HasChildren P ns front first count
   among : In (numbers_from first count) q
 
-child-front : (P : Project) (v : Verdict) (ns : List TreeNode) (p q : ℕ) (o : Option (List Entry)) (s : RowSaying) → Suits P v ns p o s → In (children_of s) q → HasFront P ns p o s q
-child-front P v ns p q (Some F) (row_expanded first count) is i = record { front = F; is_its = refl; first = first; count = count; says = refl; children = is; among = i }
-child-front P v ns p q (Some F) row_open is i = absurd i
-child-front P v ns p q (Some F) (row_late reason) is i = absurd i
-child-front P v ns p q (Some F) (row_cites r) is i = absurd i
-child-front P v ns p q (Some F) (row_shut why) is i = absurd i
-child-front P v ns p q None row_open is i = absurd i
-child-front P v ns p q None (row_expanded first count) is i = absurd is
-child-front P v ns p q None (row_late reason) is i = absurd i
-child-front P v ns p q None (row_cites r) is i = absurd i
-child-front P v ns p q None (row_shut why) is i = absurd i
+child-front : (P : Project) (v : Verdict) (ns : List TreeNode) (q : ℕ) (o : Option (List Entry)) (s : RowSaying) → Suits P v ns o s → In (children_of s) q → HasFront P ns o s q
+child-front P v ns q (Some F) (row_expanded first count) is i = record { front = F; is_its = refl; first = first; count = count; says = refl; children = is; among = i }
+child-front P v ns q (Some F) row_open is i = absurd i
+child-front P v ns q (Some F) (row_late reason) is i = absurd i
+child-front P v ns q (Some F) (row_cites r) is i = absurd i
+child-front P v ns q (Some F) (row_shut why) is i = absurd i
+child-front P v ns q None row_open is i = absurd i
+child-front P v ns q None (row_expanded first count) is i = absurd is
+child-front P v ns q None (row_late reason) is i = absurd i
+child-front P v ns q None (row_cites r) is i = absurd i
+child-front P v ns q None (row_shut why) is i = absurd i
 
 branch-choice : (F : List Entry) (cs : List Choice) (b : Branch) → In (map (λ c. by_choice F c) cs) b → (c : Choice) × (b ≡ by_choice F c)
 branch-choice F [] b i = absurd i
 branch-choice F (c ∷ cs) b (inl e) = (c, sym e)
 branch-choice F (c ∷ cs) b (inr i) = branch-choice F cs b i
 
-child-choice : (P : Project) (ns : List TreeNode) (p q : ℕ) (F : List Entry) (first count : ℕ) → HasChildren P ns p F first count → In (numbers_from first count) q → (c : Choice) × (branch_at ns q ≡ by_choice F c)
-child-choice P ns p q F first count children i =
+child-choice : (P : Project) (ns : List TreeNode) (q : ℕ) (F : List Entry) (first count : ℕ) → HasChildren P ns F first count → In (numbers_from first count) q → (c : Choice) × (branch_at ns q ≡ by_choice F c)
+child-choice P ns q F first count children i =
     branch-choice F (choices P F) (branch_at ns q) (subst (λ (x : List Branch). In x (branch_at ns q)) children.children (In-map (branch_at ns) (numbers_from first count) q i))
 
 parent-at : (P : Project) (v : Verdict) (T : List Row) (ns : List TreeNode) (ws : List Waiting) → Stands P v T ns [] ws → (p q : ℕ) → p < length T → In (children_of (says_at T p)) q → HasParent P T ns q
 parent-at P v T ns ws s p q w i =
-    let f = child-front P v ns p q (place_front ns p) (says_at T p) (s.rows p w).says i in
-    let c = child-choice P ns p q f.front f.first f.count f.children f.among in
+    let f = child-front P v ns q (place_front ns p) (says_at T p) (s.rows p w).says i in
+    let c = child-choice P ns q f.front f.first f.count f.children f.among in
     record { place = p; within = w; front = f.front; is_its = f.is_its; first = f.first; count = f.count; says = f.says; children = f.children; among = f.among; choice = c.0; branch = c.1 }
 
 pub has-parent : (P : Project) (v : Verdict) (T : List Row) (ns : List TreeNode) (ws : List Waiting) → Stands P v T ns [] ws → (q : ℕ) → q < length T → (q ≡ 0 → ⊥) → HasParent P T ns q
@@ -201,6 +203,38 @@ longer : (P : Project) (v : Verdict) (T : List Row) (ns : List TreeNode) (ws : L
 longer P v T ns ws s q l F G c front branch =
     let e : front_at (branch_at ns q) (line_of [] (row_at T q)) ≡ Some F = (s.rows q l).front ∙ front in
     longer-by G F c (row_at T q).start (subst (λ (b : Branch). front_at b (line_of [] (row_at T q)) ≡ Some F) branch e)
+
+-- Levels.
+
+-- how many jobs are placed before the choice of a branch, and that choice with them; none at the root
+abbrev pub level_of : Branch → ℕ
+level_of at_root = 0
+level_of (by_choice F c) = suc (length F)
+
+branch-level : (b : Branch) (line : LogLine) (F : List Entry) → front_at b line ≡ Some F → level_of b ≡ length F
+branch-level at_root line F e = ap length (root_front-is (shuts (says line)) F e)
+branch-level (by_choice G c) line F e =
+    let longer = longer-by G F c line.start e in
+    let n = length-append G (entry_at c.job c.mode longer.start ∷ []) in
+    let same = ap length longer.is in
+    omega arith
+
+-- a child lies one level below the front that has it, and in the table
+pub children-below : (P : Project) (v : Verdict) (T : List Row) (ns : List TreeNode) (ws : List Waiting) → Stands P v T ns [] ws → (p : ℕ) → p < length T →
+    Each (IsBelow T (λ q. level_of (branch_at ns q)) p) (children_of (says_at T p))
+unfolding parent-at
+children-below P v T ns ws s p l = Each-from_In (IsBelow T (λ q. level_of (branch_at ns q)) p) (children_of (says_at T p)) below_it
+  where
+    below_it : (q : ℕ) → In (children_of (says_at T p)) q → IsBelow T (λ x. level_of (branch_at ns x)) p q
+    below_it q i =
+        let x = parent-at P v T ns ws s p q l i in
+        let own = branch-level (branch_at ns p) (line_of [] (row_at T p)) x.front ((s.rows p l).front ∙ x.is_its) in
+        let its : level_of (branch_at ns q) ≡ suc (length x.front) = ap level_of x.branch in
+        let range = numbers-range x.first x.count q x.among in
+        let low = range.1 in
+        let within = x.children.within in
+        let size = s.size in
+        record { deeper = omega arith; within = omega arith }
 
 root-short : (P : Project) (v : Verdict) (T : List Row) (ns : List TreeNode) (ws : List Waiting) → Stands P v T ns [] ws → (F : List Entry) → place_front ns 0 ≡ Some F → length F ≡ 0
 root-short P v T ns ws s F front =
@@ -249,7 +283,7 @@ one-front P v T ns ws s (suc n) p q F small lp lq fp fq =
             let numbers : children_of (row_expanded y.first y.count) ≡ children_of (row_expanded x.first x.count) = ap children_of (sym spans) in
             let among : In (numbers_from x.first x.count) q = subst (λ (xs : List ℕ). In xs q) numbers y.among in
             let branch : branch_at ns q ≡ by_choice x.front x.choice = y.branch ∙ (ap (λ (G : List Entry). by_choice G y.choice) (sym same.0) ∙ ap (by_choice x.front) (sym choice)) in
-            children-apart P ns x.place x.front x.first x.count x.choice p q x.children x.among among x.branch branch)
+            children-apart P ns x.front x.first x.count x.choice p q x.children x.among among x.branch branch)
       ]
     ]
 

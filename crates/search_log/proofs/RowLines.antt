@@ -104,13 +104,13 @@ row-front b numbers r = numbered-front b numbers r.job r.mode r.start r.fate
 -- A row is filled.
 
 -- what suits a front that was open doesn't shut it
-pub suits-unshut : (P : Project) (v w : Verdict) (ns : List TreeNode) (p : ℕ) (o : Option (List Entry)) (s : RowSaying) → Suits P v ns p o row_open → Suits P w ns p o s → shuts (told [] s) ≡ false
-suits-unshut P v w ns p (Some F) row_open is new = refl
-suits-unshut P v w ns p (Some F) (row_expanded first count) is new = refl
-suits-unshut P v w ns p (Some F) (row_late reason) is new = refl
-suits-unshut P v w ns p (Some F) (row_cites q) is new = refl
-suits-unshut P v w ns p (Some F) (row_shut why) is new = absurd new
-suits-unshut P v w ns p None s is new = absurd is
+pub suits-unshut : (P : Project) (v w : Verdict) (ns : List TreeNode) (o : Option (List Entry)) (s : RowSaying) → Suits P v ns o row_open → Suits P w ns o s → shuts (told [] s) ≡ false
+suits-unshut P v w ns (Some F) row_open is new = refl
+suits-unshut P v w ns (Some F) (row_expanded first count) is new = refl
+suits-unshut P v w ns (Some F) (row_late reason) is new = refl
+suits-unshut P v w ns (Some F) (row_cites q) is new = refl
+suits-unshut P v w ns (Some F) (row_shut why) is new = absurd new
+suits-unshut P v w ns None s is new = absurd is
 
 open-unshut : (r : Row) → says_row r ≡ row_open → shuts (says (line_of [] r)) ≡ false
 open-unshut r e = ap shuts (saying-told [] r.fate ∙ ap (told []) e)

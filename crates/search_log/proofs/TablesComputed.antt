@@ -17,7 +17,7 @@ use Rattle.log_truth.specs.Holds.{IsLate}
 use Rattle.log_truth.proofs.LineTests.{line_test, line_test-true}
 use Rattle.log_truth.proofs.HoldsTests.{late_test, late_test-true}
 use Rattle.search_log.specs.Weights.{Each}
-use Rattle.search_log.specs.Table.{row_at, says_at, children_of, IsAfter}
+use Rattle.search_log.specs.Table.{row_at, says_at, children_of, IsBelow}
 use Rattle.search_log.specs.Stands.{line_of, branch_at, HasChildren, closing, RowSuits, Stands}
 use Rattle.search_log.specs.Told.{HasNumber, AreNumbered}
 use Rattle.search_log.specs.Examples.{in_turn_rows, in_turn_nodes, twins_rows, WorkedTables}
@@ -46,24 +46,31 @@ numbered-from numbers before (x ∷ order) i e h q (inr m) =
 numbered : (numbers order : List ℕ) → HaveNumbers numbers 0 order → AreNumbered numbers order
 numbered numbers order h q c = numbered-from numbers [] order 0 refl h q (In-from_Contains order q c)
 
-in_turn_inside : (p : ℕ) → p < length in_turn_rows → Each (IsAfter in_turn_rows p) (children_of (says_at in_turn_rows p))
-in_turn_inside zero l = (record { after = omega arith; within = omega arith }, tt)
-in_turn_inside (suc zero) l = (record { after = omega arith; within = omega arith }, (record { after = omega arith; within = omega arith }, tt))
-in_turn_inside (suc (suc zero)) l = (record { after = omega arith; within = omega arith }, tt)
-in_turn_inside (suc (suc (suc zero))) l = (record { after = omega arith; within = omega arith }, tt)
+-- how many jobs are placed at each place
+abbrev in_turn_level : ℕ → ℕ
+in_turn_level p = slice_index (0 ∷ 1 ∷ 2 ∷ 2 ∷ 3 ∷ 3 ∷ []) p
+
+abbrev twins_level : ℕ → ℕ
+twins_level p = slice_index (0 ∷ 1 ∷ 2 ∷ 2 ∷ 3 ∷ 3 ∷ 4 ∷ 4 ∷ 5 ∷ 5 ∷ []) p
+
+in_turn_inside : (p : ℕ) → p < length in_turn_rows → Each (IsBelow in_turn_rows in_turn_level p) (children_of (says_at in_turn_rows p))
+in_turn_inside zero l = (record { deeper = omega arith; within = omega arith }, tt)
+in_turn_inside (suc zero) l = (record { deeper = omega arith; within = omega arith }, (record { deeper = omega arith; within = omega arith }, tt))
+in_turn_inside (suc (suc zero)) l = (record { deeper = omega arith; within = omega arith }, tt)
+in_turn_inside (suc (suc (suc zero))) l = (record { deeper = omega arith; within = omega arith }, tt)
 in_turn_inside (suc (suc (suc (suc zero)))) l = tt
 in_turn_inside (suc (suc (suc (suc (suc zero))))) l = tt
 in_turn_inside (suc (suc (suc (suc (suc (suc p)))))) l = absurd (omega arith)
 
-twins_inside : (p : ℕ) → p < length twins_rows → Each (IsAfter twins_rows p) (children_of (says_at twins_rows p))
-twins_inside zero l = (record { after = omega arith; within = omega arith }, tt)
-twins_inside (suc zero) l = (record { after = omega arith; within = omega arith }, (record { after = omega arith; within = omega arith }, tt))
-twins_inside (suc (suc zero)) l = (record { after = omega arith; within = omega arith }, tt)
-twins_inside (suc (suc (suc zero))) l = (record { after = omega arith; within = omega arith }, tt)
-twins_inside (suc (suc (suc (suc zero)))) l = (record { after = omega arith; within = omega arith }, (record { after = omega arith; within = omega arith }, tt))
+twins_inside : (p : ℕ) → p < length twins_rows → Each (IsBelow twins_rows twins_level p) (children_of (says_at twins_rows p))
+twins_inside zero l = (record { deeper = omega arith; within = omega arith }, tt)
+twins_inside (suc zero) l = (record { deeper = omega arith; within = omega arith }, (record { deeper = omega arith; within = omega arith }, tt))
+twins_inside (suc (suc zero)) l = (record { deeper = omega arith; within = omega arith }, tt)
+twins_inside (suc (suc (suc zero))) l = (record { deeper = omega arith; within = omega arith }, tt)
+twins_inside (suc (suc (suc (suc zero)))) l = (record { deeper = omega arith; within = omega arith }, (record { deeper = omega arith; within = omega arith }, tt))
 twins_inside (suc (suc (suc (suc (suc zero))))) l = tt
-twins_inside (suc (suc (suc (suc (suc (suc zero)))))) l = (record { after = omega arith; within = omega arith }, tt)
-twins_inside (suc (suc (suc (suc (suc (suc (suc zero))))))) l = (record { after = omega arith; within = omega arith }, tt)
+twins_inside (suc (suc (suc (suc (suc (suc zero)))))) l = (record { deeper = omega arith; within = omega arith }, tt)
+twins_inside (suc (suc (suc (suc (suc (suc (suc zero))))))) l = (record { deeper = omega arith; within = omega arith }, tt)
 twins_inside (suc (suc (suc (suc (suc (suc (suc (suc zero)))))))) l = tt
 twins_inside (suc (suc (suc (suc (suc (suc (suc (suc (suc zero))))))))) l = tt
 twins_inside (suc (suc (suc (suc (suc (suc (suc (suc (suc (suc p)))))))))) l = absurd (omega arith)
@@ -81,19 +88,19 @@ in_turn-chains j = slice_index_or ((2 ∷ 4 ∷ []) ∷ (4 ∷ []) ∷ (4 ∷ []
 late_by_tail : (F : List Entry) → late_test two_in_turn in_turn-chains F late_tail ≡ true → 5 ≤ tail_value two_in_turn in_turn-chains F → IsLate two_in_turn (closing (Some 5)) F late_tail
 late_by_tail F h l = record { number = tail_value two_in_turn in_turn-chains F; late = late_test-true two_in_turn in_turn-acyclic in_turn-chains F late_tail h; suffices = l }
 
-children_from : (p : ℕ) (F : List Entry) (first count : ℕ) → not (leaf_test two_in_turn F) ≡ true → p < first → first + count ≤ length in_turn_nodes → map (branch_at in_turn_nodes) (numbers_from first count) ≡ child_branches two_in_turn F →
-    HasChildren two_in_turn in_turn_nodes p F first count
-children_from p F first count h a w e = record { inner = not_leaf two_in_turn F h; after = a; within = w; children = e }
+children_from : (F : List Entry) (first count : ℕ) → not (leaf_test two_in_turn F) ≡ true → first + count ≤ length in_turn_nodes → map (branch_at in_turn_nodes) (numbers_from first count) ≡ child_branches two_in_turn F →
+    HasChildren two_in_turn in_turn_nodes F first count
+children_from F first count h w e = record { inner = not_leaf two_in_turn F h; within = w; children = e }
 
 in_turn_line : (p : ℕ) → line_test two_in_turn (branch_at in_turn_nodes p) (line_of [] (row_at in_turn_rows p)) ≡ true → IsLineAt two_in_turn (branch_at in_turn_nodes p) (line_of [] (row_at in_turn_rows p))
 in_turn_line p h = line_test-true two_in_turn (branch_at in_turn_nodes p) (line_of [] (row_at in_turn_rows p)) h
 
 in_turn_suits : (p : ℕ) → p < length in_turn_rows → RowSuits two_in_turn (closing (Some 5)) in_turn_nodes p (row_at in_turn_rows p)
 unfolding job_count modes_of mode_of successors_of duration request need capacity budget is_before cap calm least_duration least_need least_work
-in_turn_suits zero l = record { line = in_turn_line 0 refl; front = refl; says = children_from 0 [] 1 1 refl (omega arith) (omega arith) refl }
-in_turn_suits (suc zero) l = record { line = in_turn_line 1 refl; front = refl; says = children_from 1 (entry_at 1 1 0 ∷ []) 2 2 refl (omega arith) (omega arith) refl }
-in_turn_suits (suc (suc zero)) l = record { line = in_turn_line 2 refl; front = refl; says = children_from 2 (entry_at 1 1 0 ∷ entry_at 2 1 0 ∷ []) 5 1 refl (omega arith) (omega arith) refl }
-in_turn_suits (suc (suc (suc zero))) l = record { line = in_turn_line 3 refl; front = refl; says = children_from 3 (entry_at 1 1 0 ∷ entry_at 3 1 0 ∷ []) 4 1 refl (omega arith) (omega arith) refl }
+in_turn_suits zero l = record { line = in_turn_line 0 refl; front = refl; says = children_from [] 1 1 refl (omega arith) refl }
+in_turn_suits (suc zero) l = record { line = in_turn_line 1 refl; front = refl; says = children_from (entry_at 1 1 0 ∷ []) 2 2 refl (omega arith) refl }
+in_turn_suits (suc (suc zero)) l = record { line = in_turn_line 2 refl; front = refl; says = children_from (entry_at 1 1 0 ∷ entry_at 2 1 0 ∷ []) 5 1 refl (omega arith) refl }
+in_turn_suits (suc (suc (suc zero))) l = record { line = in_turn_line 3 refl; front = refl; says = children_from (entry_at 1 1 0 ∷ entry_at 3 1 0 ∷ []) 4 1 refl (omega arith) refl }
 in_turn_suits (suc (suc (suc (suc zero)))) l = record { line = in_turn_line 4 refl; front = refl; says = late_by_tail (entry_at 1 1 0 ∷ entry_at 3 1 0 ∷ entry_at 2 1 2 ∷ []) refl (omega arith) }
 in_turn_suits (suc (suc (suc (suc (suc zero))))) l = record { line = in_turn_line 5 refl; front = refl; says = late_by_tail (entry_at 1 1 0 ∷ entry_at 2 1 0 ∷ entry_at 3 1 3 ∷ []) refl (omega arith) }
 in_turn_suits (suc (suc (suc (suc (suc (suc p)))))) l = absurd (omega arith)
@@ -113,7 +120,7 @@ in_turn_stands = record {
 pub worked_tables : WorkedTables
 worked_tables = record {
   stands = in_turn_stands;
-  whole_in_turn = record { root = omega arith; account = λ h. omega arith; inside = in_turn_inside };
+  whole_in_turn = record { root = omega arith; account = λ h. omega arith; level = in_turn_level; inside = in_turn_inside };
   in_turn = record {
     numbers = 1 ∷ 2 ∷ 3 ∷ 5 ∷ 6 ∷ 4 ∷ [];
     order = 0 ∷ 1 ∷ 2 ∷ 5 ∷ 3 ∷ 4 ∷ [];
@@ -121,7 +128,7 @@ worked_tables = record {
     numbered = numbered (1 ∷ 2 ∷ 3 ∷ 5 ∷ 6 ∷ 4 ∷ []) (0 ∷ 1 ∷ 2 ∷ 5 ∷ 3 ∷ 4 ∷ []) (refl, (refl, (refl, (refl, (refl, (refl, tt))))));
     are = refl;
   };
-  whole_twins = record { root = omega arith; account = λ h. omega arith; inside = twins_inside };
+  whole_twins = record { root = omega arith; account = λ h. omega arith; level = twins_level; inside = twins_inside };
   twins = record {
     numbers = 1 ∷ 2 ∷ 3 ∷ 5 ∷ 6 ∷ 4 ∷ 7 ∷ 9 ∷ 8 ∷ 10 ∷ [];
     order = 0 ∷ 1 ∷ 2 ∷ 5 ∷ 3 ∷ 4 ∷ 6 ∷ 8 ∷ 7 ∷ 9 ∷ [];

@@ -18,37 +18,23 @@ use Rattle.log_truth.proofs.OneRefusal.{expanded-cons}
 use Rattle.search_log.specs.declared.row.Row.{Row}
 use Rattle.search_log.specs.Weights.{total, over, places_weight, Each}
 use Rattle.search_log.specs.Fates.{RowSaying, row_open, row_expanded, row_late, row_cites, row_shut}
-use Rattle.search_log.specs.Table.{no_row, row_at, says_row, says_at, children_of, IsAfter, IsWhole, Walks, IsPreorder}
+use Rattle.search_log.specs.Table.{no_row, row_at, says_row, says_at, children_of, IsWhole, Walks, IsPreorder}
 use Rattle.search_log.specs.Stands.{line_of, TreeNode, branch_at, place_front, Suits, Stands, IsExpandedAt, RowsCite, one_expanded, expanded_rows}
 use Rattle.search_log.specs.Told.{Tells}
 use Rattle.search_log.specs.Laws.{WholeLaw, CountLaw}
 use Rattle.search_log.proofs.Sums.{Each-weaker, over-items, only_at, place-once, In-from_weight}
 use Rattle.search_log.proofs.PassedPlaces.{IsPlace, next-inside, passes-all}
+use Rattle.search_log.proofs.OneParent.{level_of, children-below}
 use Rattle.search_log.proofs.RowLines.{told, saying-told, row-line, row-front}
 
 -- A table in which nothing waits is whole.
-
-numbers-inside : (T : List Row) (p i n : ℕ) → p < i → i + n ≤ length T → Each (IsAfter T p) (numbers_from i n)
-numbers-inside T p i zero l h = tt
-numbers-inside T p i (suc n) l h = (record { after = omega arith; within = omega arith }, numbers-inside T p (i + 1) n (omega arith) (omega arith))
-
-children-inside : (P : Project) (v : Verdict) (T : List Row) (ns : List TreeNode) (p : ℕ) (o : Option (List Entry)) (s : RowSaying) → length ns ≡ length T → Suits P v ns p o s → Each (IsAfter T p) (children_of s)
-children-inside P v T ns p (Some F) row_open e is = tt
-children-inside P v T ns p (Some F) (row_expanded first count) e is = let w = is.within in numbers-inside T p first count is.after (omega arith)
-children-inside P v T ns p (Some F) (row_late reason) e is = tt
-children-inside P v T ns p (Some F) (row_cites q) e is = tt
-children-inside P v T ns p (Some F) (row_shut why) e is = absurd is
-children-inside P v T ns p None row_open e is = absurd is
-children-inside P v T ns p None (row_expanded first count) e is = absurd is
-children-inside P v T ns p None (row_late reason) e is = absurd is
-children-inside P v T ns p None (row_cites q) e is = absurd is
-children-inside P v T ns p None (row_shut why) e is = tt
 
 pub whole_law : WholeLaw
 whole_law P v T ns s = record {
   root = s.some;
   account = λ h. let a = s.account h in omega arith;
-  inside = λ p l. children-inside P v T ns p (place_front ns p) (says_at T p) s.size (s.rows p l).says;
+  level = λ p. level_of (branch_at ns p);
+  inside = children-below P v T ns [] s;
 }
 
 -- The lines are the log of the root.
@@ -66,24 +52,24 @@ log_node-says numbers T p = saying-told numbers (row_at T p).fate
 pub log_node-front : (P : Project) (v : Verdict) (T : List Row) (ns : List TreeNode) (numbers : List ℕ) → Stands P v T ns [] [] → (p : ℕ) → p < length T → front_of (log_node numbers T ns p) ≡ place_front ns p
 log_node-front P v T ns numbers s p l = row-front (branch_at ns p) numbers (row_at T p) ∙ (s.rows p l).front
 
-children-branches : (P : Project) (v : Verdict) (ns : List TreeNode) (p : ℕ) (numbers : List ℕ) (o : Option (List Entry)) (s : RowSaying) → Suits P v ns p o s →
+children-branches : (P : Project) (v : Verdict) (ns : List TreeNode) (numbers : List ℕ) (o : Option (List Entry)) (s : RowSaying) → Suits P v ns o s →
     map (branch_at ns) (children_of s) ≡ expanded_branches P (expands (told numbers s)) o
-children-branches P v ns p numbers (Some F) row_open is = refl
-children-branches P v ns p numbers (Some F) (row_expanded first count) is = is.children
-children-branches P v ns p numbers (Some F) (row_late reason) is = refl
-children-branches P v ns p numbers (Some F) (row_cites q) is = refl
-children-branches P v ns p numbers (Some F) (row_shut why) is = refl
-children-branches P v ns p numbers None row_open is = absurd is
-children-branches P v ns p numbers None (row_expanded first count) is = absurd is
-children-branches P v ns p numbers None (row_late reason) is = absurd is
-children-branches P v ns p numbers None (row_cites q) is = absurd is
-children-branches P v ns p numbers None (row_shut why) is = refl
+children-branches P v ns numbers (Some F) row_open is = refl
+children-branches P v ns numbers (Some F) (row_expanded first count) is = is.children
+children-branches P v ns numbers (Some F) (row_late reason) is = refl
+children-branches P v ns numbers (Some F) (row_cites q) is = refl
+children-branches P v ns numbers (Some F) (row_shut why) is = refl
+children-branches P v ns numbers None row_open is = absurd is
+children-branches P v ns numbers None (row_expanded first count) is = absurd is
+children-branches P v ns numbers None (row_late reason) is = absurd is
+children-branches P v ns numbers None (row_cites q) is = absurd is
+children-branches P v ns numbers None (row_shut why) is = refl
 
 below-children : (P : Project) (v : Verdict) (T : List Row) (ns : List TreeNode) (numbers : List ℕ) → Stands P v T ns [] [] → (p : ℕ) → p < length T →
     map (branch_at ns) (children_of (says_at T p)) ≡ below P (branch_at ns p) (line_at numbers T p)
 unfolding below
 below-children P v T ns numbers s p l =
-    children-branches P v ns p numbers (place_front ns p) (says_at T p) (s.rows p l).says
+    children-branches P v ns numbers (place_front ns p) (says_at T p) (s.rows p l).says
     ∙ (ap (λ (x : Bool). expanded_branches P x (place_front ns p)) (sym (ap expands (log_node-says numbers T p)))
     ∙ ap (expanded_branches P (is_expanded (line_at numbers T p))) (sym (log_node-front P v T ns numbers s p l)))
 

@@ -51,18 +51,18 @@ late-later P v w F (late_left b) l k is =
     let n = is.number in
     record { number = n; late = is.late; suffices = (m.0, subst (λ (o : Option ℕ). IfSome o (λ d. n < d)) m.1 is.suffices.1) }
 
-pub suits-later : (P : Project) (v w : Verdict) (ns : List TreeNode) (p : ℕ) (o : Option (List Entry)) (s : RowSaying) → IsNoLater (duration_of v) (duration_of w) →
-    ((reason : Reason) → s ≡ row_late reason → LeavesToo v w reason) → Suits P v ns p o s → Suits P w ns p o s
-suits-later P v w ns p (Some F) row_open l k is = tt
-suits-later P v w ns p (Some F) (row_expanded first count) l k is = is
-suits-later P v w ns p (Some F) (row_late reason) l k is = late-later P v w F reason l (k reason refl) is
-suits-later P v w ns p (Some F) (row_cites q) l k is = tt
-suits-later P v w ns p (Some F) (row_shut why) l k is = is
-suits-later P v w ns p None row_open l k is = is
-suits-later P v w ns p None (row_expanded first count) l k is = is
-suits-later P v w ns p None (row_late reason) l k is = is
-suits-later P v w ns p None (row_cites q) l k is = is
-suits-later P v w ns p None (row_shut why) l k is = tt
+pub suits-later : (P : Project) (v w : Verdict) (ns : List TreeNode) (o : Option (List Entry)) (s : RowSaying) → IsNoLater (duration_of v) (duration_of w) →
+    ((reason : Reason) → s ≡ row_late reason → LeavesToo v w reason) → Suits P v ns o s → Suits P w ns o s
+suits-later P v w ns (Some F) row_open l k is = tt
+suits-later P v w ns (Some F) (row_expanded first count) l k is = is
+suits-later P v w ns (Some F) (row_late reason) l k is = late-later P v w F reason l (k reason refl) is
+suits-later P v w ns (Some F) (row_cites q) l k is = tt
+suits-later P v w ns (Some F) (row_shut why) l k is = is
+suits-later P v w ns None row_open l k is = is
+suits-later P v w ns None (row_expanded first count) l k is = is
+suits-later P v w ns None (row_late reason) l k is = is
+suits-later P v w ns None (row_cites q) l k is = is
+suits-later P v w ns None (row_shut why) l k is = tt
 
 -- Closing.
 
@@ -78,21 +78,21 @@ close-row : (P : Project) (start best : Option ℕ) (ns : List TreeNode) (p : �
 close-row P start best ns p r l is = record {
   line = is.line;
   front = is.front;
-  says = suits-later P (searching start) (closing best) ns p (place_front ns p) (says_row r)
+  says = suits-later P (searching start) (closing best) ns (place_front ns p) (says_row r)
       (subst (λ (o : Option ℕ). IsNoLater o best) (sym (searching-duration start)) l)
       (λ reason e b f m. absurd (searching-no_limit start m)) is.says;
 }
 
 -- what is right while the search goes on is so with a lesser end
-pub searching-suits : (P : Project) (start best : Option ℕ) (ns : List TreeNode) (p : ℕ) (o : Option (List Entry)) (s : RowSaying) → IsNoLater start best → Suits P (searching start) ns p o s → Suits P (searching best) ns p o s
-searching-suits P start best ns p o s l is =
-    suits-later P (searching start) (searching best) ns p o s
+pub searching-suits : (P : Project) (start best : Option ℕ) (ns : List TreeNode) (o : Option (List Entry)) (s : RowSaying) → IsNoLater start best → Suits P (searching start) ns o s → Suits P (searching best) ns o s
+searching-suits P start best ns o s l is =
+    suits-later P (searching start) (searching best) ns o s
     (subst (λ (x : Option ℕ). IsNoLater x (duration_of (searching best))) (sym (searching-duration start)) (subst (λ (x : Option ℕ). IsNoLater start x) (sym (searching-duration best)) l))
     (λ reason e b f m. absurd (searching-no_limit start m)) is
 
 pub searching-row : (P : Project) (start best : Option ℕ) (ns : List TreeNode) (p : ℕ) (r : Row) → IsNoLater start best → RowSuits P (searching start) ns p r → RowSuits P (searching best) ns p r
 searching-row P start best ns p r l is =
-    record { line = is.line; front = is.front; says = searching-suits P start best ns p (place_front ns p) (says_row r) l is.says }
+    record { line = is.line; front = is.front; says = searching-suits P start best ns (place_front ns p) (says_row r) l is.says }
 
 children-none : (h : ℕ → ℕ) (fills : List Fill) → Each (λ f. children_of (row_saying f.fate) ≡ []) fills → total (λ f. total h (children_of (row_saying f.fate))) fills ≡ 0
 children-none h [] e = refl
@@ -125,23 +125,23 @@ left-limit T best (Some l) b least at = tt
 left-limit T best None b none at = absurd (none b at)
 
 -- a right saying that isn't open is allowed
-suits-allowed : (P : Project) (v : Verdict) (ns : List TreeNode) (p : ℕ) (numbers : List ℕ) (o : Option (List Entry)) (s : RowSaying) → IsClosed s → Suits P v ns p o s → IfSome o (λ F. Allows P v F (told numbers s))
-suits-allowed P v ns p numbers (Some F) row_open c is = absurd c
-suits-allowed P v ns p numbers (Some F) (row_expanded first count) c is = is.inner
-suits-allowed P v ns p numbers (Some F) (row_late reason) c is = is
-suits-allowed P v ns p numbers (Some F) (row_cites q) c is = tt
-suits-allowed P v ns p numbers (Some F) (row_shut why) c is = is
-suits-allowed P v ns p numbers None s c is = tt
+suits-allowed : (P : Project) (v : Verdict) (ns : List TreeNode) (numbers : List ℕ) (o : Option (List Entry)) (s : RowSaying) → IsClosed s → Suits P v ns o s → IfSome o (λ F. Allows P v F (told numbers s))
+suits-allowed P v ns numbers (Some F) row_open c is = absurd c
+suits-allowed P v ns numbers (Some F) (row_expanded first count) c is = is.inner
+suits-allowed P v ns numbers (Some F) (row_late reason) c is = is
+suits-allowed P v ns numbers (Some F) (row_cites q) c is = tt
+suits-allowed P v ns numbers (Some F) (row_shut why) c is = is
+suits-allowed P v ns numbers None s c is = tt
 
 place-allowed : (P : Project) (best lower : Option ℕ) (T : List Row) (ns : List TreeNode) (numbers : List ℕ) → Stands P (closing best) T ns [] [] → IsLeastLeft T lower → (p : ℕ) → p < length T →
     IsAllowed P (verdict_of best lower) (log_node numbers T ns p).branch (log_node numbers T ns p).line
 place-allowed P best lower T ns numbers s least p l =
     let v : Verdict = verdict_of best lower in
     let same = told-duration best lower in
-    let suits = suits-later P (closing best) v ns p (place_front ns p) (says_at T p)
+    let suits = suits-later P (closing best) v ns (place_front ns p) (says_at T p)
     (subst (λ (o : Option ℕ). IsNoLater best o) (sym same) (no-later best))
     (λ reason e b f m. (left-limit T best lower b least (record { place = p; is = e ∙ ap row_late f }), sym same)) (s.rows p l).says in
-    let allowed = suits-allowed P v ns p numbers (place_front ns p) (says_at T p) (none-open P (closing best) T ns s p l) suits in
+    let allowed = suits-allowed P v ns numbers (place_front ns p) (says_at T p) (none-open P (closing best) T ns s p l) suits in
     subst (λ (o : Option (List Entry)). IfSome o (λ F. Allows P v F (says (line_at numbers T p)))) (sym (log_node-front P (closing best) T ns numbers s p l))
     (subst (λ x. IfSome (place_front ns p) (λ F. Allows P v F x)) (sym (log_node-says numbers T p)) allowed)
 

@@ -50,11 +50,11 @@ pub record ChildRows (P : Project) (verdict : Verdict) (ns : List TreeNode) (p :
 abbrev pub ChildRowsLaw : Type 0
 ChildRowsLaw = (P : Project) (verdict : Verdict) (ns : List TreeNode) (p : ℕ) (F : List Entry) (c : Choice) → ChildRows P verdict ns p F c
 
--- nodes that come behind the others, one for each branch below the front of a place, are its children
+-- nodes that come behind the others, one for each branch below a front, are its children
 abbrev pub ChildPlacesLaw : Type 0
 ChildPlacesLaw =
-    (P : Project) (ns more : List TreeNode) (p : ℕ) (F : List Entry) → (IsLeaf P F → ⊥) → p < length ns → map (λ n. n.branch) more ≡ child_branches P F →
-    HasChildren P (ns ++ more) p F (length ns) (length more)
+    (P : Project) (ns more : List TreeNode) (F : List Entry) → (IsLeaf P F → ⊥) → map (λ n. n.branch) more ≡ child_branches P F →
+    HasChildren P (ns ++ more) F (length ns) (length more)
 
 -- Growing.
 

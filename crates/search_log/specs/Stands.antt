@@ -41,10 +41,9 @@ branch_at ns p = (node_at ns p).branch
 abbrev pub place_front : List TreeNode → ℕ → Option (List Entry)
 place_front ns p = (node_at ns p).front
 
--- the children of the front F of the place p have the places from the first on, so many
-pub record HasChildren (P : Project) (ns : List TreeNode) (p : ℕ) (F : List Entry) (first count : ℕ) : Type 0 where
+-- the children of the front F have the places from the first on, so many
+pub record HasChildren (P : Project) (ns : List TreeNode) (F : List Entry) (first count : ℕ) : Type 0 where
   pub inner : IsLeaf P F → ⊥
-  pub after : p < first
   pub within : first + count ≤ length ns
   pub children : map (branch_at ns) (numbers_from first count) ≡ child_branches P F
 
@@ -66,22 +65,22 @@ IsNoLater None e = Unit {0}
 IsNoLater (Some d) None = ⊥
 IsNoLater (Some d) (Some e) = e ≤ d
 
--- what is said of the place p is right, apart from what is cited
-abbrev pub Suits : Project → Verdict → List TreeNode → ℕ → Option (List Entry) → RowSaying → Type 0
-Suits P verdict ns p (Some F) row_open = Unit {0}
-Suits P verdict ns p (Some F) (row_expanded first count) = HasChildren P ns p F first count
-Suits P verdict ns p (Some F) (row_late reason) = IsLate P verdict F reason
-Suits P verdict ns p (Some F) (row_cites q) = Unit {0}
-Suits P verdict ns p (Some F) (row_shut why) = ⊥
-Suits P verdict ns p None (row_shut why) = Unit {0}
-Suits P verdict ns p None _ = ⊥
+-- what is said of a place that has this front, if it has one, is right, apart from what is cited
+abbrev pub Suits : Project → Verdict → List TreeNode → Option (List Entry) → RowSaying → Type 0
+Suits P verdict ns (Some F) row_open = Unit {0}
+Suits P verdict ns (Some F) (row_expanded first count) = HasChildren P ns F first count
+Suits P verdict ns (Some F) (row_late reason) = IsLate P verdict F reason
+Suits P verdict ns (Some F) (row_cites q) = Unit {0}
+Suits P verdict ns (Some F) (row_shut why) = ⊥
+Suits P verdict ns None (row_shut why) = Unit {0}
+Suits P verdict ns None _ = ⊥
 
 -- the line of the row is that of its branch, whatever its fate will be, its front is that of its place, and what it says is
 -- right
 pub record RowSuits (P : Project) (verdict : Verdict) (ns : List TreeNode) (p : ℕ) (r : Row) : Type 0 where
   pub line : IsLineAt P (branch_at ns p) (line_of [] r)
   pub front : front_at (branch_at ns p) (line_of [] r) ≡ place_front ns p
-  pub says : Suits P verdict ns p (place_front ns p) (says_row r)
+  pub says : Suits P verdict ns (place_front ns p) (says_row r)
 
 -- the row is open no more
 abbrev pub IsClosed : RowSaying → Type 0
@@ -92,7 +91,7 @@ IsClosed _ = Unit {0}
 pub record FillSuits (P : Project) (verdict : Verdict) (ns : List TreeNode) (fill : Fill) : Type 0 where
   pub within : fill.place < length ns
   pub closed : IsClosed (row_saying fill.fate)
-  pub says : Suits P verdict ns fill.place (place_front ns fill.place) (row_saying fill.fate)
+  pub says : Suits P verdict ns (place_front ns fill.place) (row_saying fill.fate)
 
 -- a front that waits to be visited, with its place
 pub record Waiting : Type 0 where

@@ -31,17 +31,18 @@ children_of _ = []
 abbrev pub children_weight : (ℕ → ℕ) → List Row → ℕ
 children_weight h T = over (λ k r. total h (children_of (says_row r))) 0 T
 
--- between the place p and the end of the table
-pub record IsAfter (T : List Row) (p q : ℕ) : Type 0 where
-  pub after : p < q
+-- the place q lies in the table, and deeper than p
+pub record IsBelow (T : List Row) (level : ℕ → ℕ) (p q : ℕ) : Type 0 where
+  pub deeper : level p < level q
   pub within : q < length T
 
 -- However places are weighed: all places weigh what the root and the children of all rows weigh. So each place but the
--- first is that of one child. The children of a row lie after it
+-- first is that of one child. Each place has a level, and the children of a row lie deeper than it
 pub record IsWhole (T : List Row) : Type 0 where
   pub root : 0 < length T
   pub account : (h : ℕ → ℕ) → places_weight h T ≡ h 0 + children_weight h T
-  pub inside : (p : ℕ) → p < length T → Each (IsAfter T p) (children_of (says_at T p))
+  pub level : ℕ → ℕ
+  pub inside : (p : ℕ) → p < length T → Each (IsBelow T level p) (children_of (says_at T p))
 
 -- The places are passed in preorder, where those of the first list wait: the first of these, then its children before the
 -- others

@@ -131,12 +131,12 @@ front-within ns p F e =
 close-suits : (P : Project) (best : Option ℕ) (number : ℕ) (ns : List TreeNode) (w : WaitingNode) (f : Fill) → IsAtPlace ns (waits_at w) → IsCloseOf P best number w f → FillSuits P (closing best) ns f
 close-suits P best number ns w f at is =
     let here : place_front ns f.place ≡ Some w.node.front = ap (place_front ns) is.place ∙ at in
-    let own : Suits P (closing best) ns f.place (Some w.node.front) (row_late is.late.reason) = is.late.late in
+    let own : Suits P (closing best) ns (Some w.node.front) (row_late is.late.reason) = is.late.late in
     record {
       within = front-within ns f.place w.node.front here;
       closed = subst IsClosed (sym is.late.says) tt;
-      says = subst (λ (o : Option (List Entry)). Suits P (closing best) ns f.place o (row_saying f.fate)) (sym here)
-          (subst (λ (s : RowSaying). Suits P (closing best) ns f.place (Some w.node.front) s) (sym is.late.says) own);
+      says = subst (λ (o : Option (List Entry)). Suits P (closing best) ns o (row_saying f.fate)) (sym here)
+          (subst (λ (s : RowSaying). Suits P (closing best) ns (Some w.node.front) s) (sym is.late.says) own);
     }
 
 each-suits : (P : Project) (best : Option ℕ) (number : ℕ) (ns : List TreeNode) (left : List WaitingNode) (fills : List Fill) → Each (IsAtPlace ns) (waiting_of left) → AllZip (IsCloseOf P best number) left fills →

@@ -335,9 +335,9 @@ searching-left : (P : Project) (best : Option ℕ) (F : List Entry) (b : ℕ) �
 searching-left P (Some d) F b is = is.suffices.0
 searching-left P None F b is = is.suffices.0
 
-suits-left : (P : Project) (best : Option ℕ) (ns : List TreeNode) (p : ℕ) (o : Option (List Entry)) (b : ℕ) → Suits P (searching best) ns p o (row_late (late_left b)) → ⊥
-suits-left P best ns p (Some F) b is = searching-left P best F b is
-suits-left P best ns p None b is = is
+suits-left : (P : Project) (best : Option ℕ) (ns : List TreeNode) (o : Option (List Entry)) (b : ℕ) → Suits P (searching best) ns o (row_late (late_left b)) → ⊥
+suits-left P best ns (Some F) b is = searching-left P best F b is
+suits-left P best ns None b is = is
 
 -- a row that was left, or closed after the last round, was one of those that waited
 pub some-left : (P : Project) (T : List Row) (O : List Origin) (ns : List TreeNode) (left : List WaitingNode) (old best : Option ℕ) (number : ℕ) (fills : List Fill) → Closes P T O ns left old best number fills → (b : ℕ) →
@@ -349,7 +349,7 @@ some-left P T O ns left old best number fills k b at none =
       | inr c ↦ (let bad : In [] c.node = subst (λ (x : List WaitingNode). In x c.node) none c.among in bad)
       | inl kept ↦ (
           let was : says_at T at.place ≡ row_late (late_left b) = sym (ap (λ (x : PlaceRow). says_row x.row) kept.1) ∙ at.is in
-          suits-left P old ns at.place (place_front ns at.place) b (subst (λ (s : RowSaying). Suits P (searching old) ns at.place (place_front ns at.place) s) was (k.before.rows at.place kept.0.within).says))
+          suits-left P old ns (place_front ns at.place) b (subst (λ (s : RowSaying). Suits P (searching old) ns (place_front ns at.place) s) was (k.before.rows at.place kept.0.within).says))
     ]
 
 pub late-left : (P : Project) (w : ℕ) (first : Option ℕ) (starts : List ℕ) (T : List Row) (O : List Origin) (ns : List TreeNode) (left : List WaitingNode) (old best : Option ℕ) (number : ℕ) (fills : List Fill) →
@@ -380,5 +380,5 @@ narrow-left P T O ns left old best number fills k b at =
       | inr c ↦ left-fate c.fill.fate b (sym c.says ∙ at.is) c.closes.late.narrow
       | inl kept ↦ absurd (
           let was : says_at T at.place ≡ row_late (late_left b) = sym (ap (λ (x : PlaceRow). says_row x.row) kept.1) ∙ at.is in
-          suits-left P old ns at.place (place_front ns at.place) b (subst (λ (s : RowSaying). Suits P (searching old) ns at.place (place_front ns at.place) s) was (k.before.rows at.place kept.0.within).says))
+          suits-left P old ns (place_front ns at.place) b (subst (λ (s : RowSaying). Suits P (searching old) ns (place_front ns at.place) s) was (k.before.rows at.place kept.0.within).says))
     ]

@@ -201,7 +201,7 @@ cites-front : (P : Project) (b : Beginning) (ns : List TreeNode) (best : Option 
 cites-front P b ns best e q at is = record {
   within = is.within;
   closed = tt;
-  says = subst (λ (o : Option (List Entry)). Suits P (searching best) ns e.fill.place o (row_cites q)) (sym at) tt;
+  says = subst (λ (o : Option (List Entry)). Suits P (searching best) ns o (row_cites q)) (sym at) tt;
 }
 
 -- a part of which the first live citation is resolved

@@ -47,7 +47,7 @@ cited-within P earlier rows best F at now (Cutset (Live worker place)) places ow
 
 -- what is said of a closed node is right; if it cites a row, that is the right one, or it was closed by a live record
 pub record IsClosedAs (P : Project) (b : Beginning) (events : List Event) (least : ℕ) (F : List Entry) (live : Type 0) (fate : RowFate) : Type 0 where
-  pub suits : (ns : List TreeNode) (p : ℕ) → Suits P (searching (end_in least)) ns p (Some F) (row_saying fate)
+  pub suits : (ns : List TreeNode) → Suits P (searching (end_in least)) ns (Some F) (row_saying fate)
   pub closed : IsClosed (row_saying fate)
   pub childless : children_of (row_saying fate) ≡ []
   pub unexpanded : one_expanded (row_saying fate) ≡ 0
@@ -57,7 +57,7 @@ pub record IsClosedAs (P : Project) (b : Beginning) (events : List Event) (least
 
 cited-as : (P : Project) (b : Beginning) (events : List Event) (least : ℕ) (F : List Entry) (live : Type 0) (p : ℕ) → IsCitedIn P b events p F ⊎ live → IsClosedAs P b events least F live (fate.Cited p)
 cited-as P b events least F live p is = record {
-  suits = λ ns q. tt;
+  suits = λ ns. tt;
   closed = tt;
   childless = refl;
   unexpanded = refl;
@@ -87,7 +87,7 @@ closed-as P b events made rows best node at now Leaf p stands places all same fa
     let end = front-end P node.front p.limits stands.front in
     let seen = c.offers.seen in
     record {
-      suits = λ ns q. record { number = end_of P node.front; late = (c.leaf, refl); suffices = reaches-end now.pass.least_seen (end_of P node.front) seen (omega arith) };
+      suits = λ ns. record { number = end_of P node.front; late = (c.leaf, refl); suffices = reaches-end now.pass.least_seen (end_of P node.front) seen (omega arith) };
       closed = tt;
       childless = refl;
       unexpanded = refl;
@@ -100,7 +100,7 @@ closed-as P b events made rows best node at now TailBound p stands places all sa
     let small = tail-limit P node.front r.number p stands.front r.is in
     let reach = r.reaches in
     record {
-      suits = λ ns q. record { number = r.number; late = r.is; suffices = reaches-end now.pass.least_seen r.number (omega arith) (omega arith) };
+      suits = λ ns. record { number = r.number; late = r.is; suffices = reaches-end now.pass.least_seen r.number (omega arith) (omega arith) };
       closed = tt;
       childless = refl;
       unexpanded = refl;
@@ -113,7 +113,7 @@ closed-as P b events made rows best node at now (WorkBound k) p stands places al
     let small = r.is.bound in
     let reach = r.reaches in
     record {
-      suits = λ ns q. record { number = r.number; late = r.is; suffices = reaches-end now.pass.least_seen r.number (omega arith) (omega arith) };
+      suits = λ ns. record { number = r.number; late = r.is; suffices = reaches-end now.pass.least_seen r.number (omega arith) (omega arith) };
       closed = tt;
       childless = refl;
       unexpanded = refl;

@@ -238,33 +238,32 @@ branches-moved n g ns ms first (suc count) m a =
     let ih = branches-moved n g ns ms (first + 1) count m a.1 in
     ap (λ (x : Branch). x ∷ map (branch_at ms) (numbers_from (moved n g first + 1) count)) own ∙ ap (λ (x : List Branch). branch_at ns first ∷ x) (tail ∙ ih)
 
-has-moved : (P : Project) (n g : ℕ) (ns ms : List TreeNode) (p : ℕ) (F : List Entry) (first count : ℕ) → HaveMoved n g ns ms → Each (λ q. n ≤ q) (numbers_from first count) → HasChildren P ns p F first count →
-    HasChildren P ms (moved n g p) F (moved n g first) count
-has-moved P n g ns ms p F first count m a is = record {
+has-moved : (P : Project) (n g : ℕ) (ns ms : List TreeNode) (F : List Entry) (first count : ℕ) → HaveMoved n g ns ms → Each (λ q. n ≤ q) (numbers_from first count) → HasChildren P ns F first count →
+    HasChildren P ms F (moved n g first) count
+has-moved P n g ns ms F first count m a is = record {
   inner = is.inner;
-  after = moved-less n g p first is.after;
   within = subst (λ (k : ℕ). moved n g first + count ≤ k) (sym m.size) (moved-low n g first count (length ns) is.within);
   children = branches-moved n g ns ms first count m a ∙ is.children;
 }
 
-suits-moved : (P : Project) (v : Verdict) (n g : ℕ) (ns ms : List TreeNode) (p : ℕ) (o : Option (List Entry)) (fate : RowFate) → HaveMoved n g ns ms → Each (λ q. n ≤ q) (children_of (row_saying fate)) →
-    Suits P v ns p o (row_saying fate) → Suits P v ms (moved n g p) o (row_saying (moved_fate n g fate))
-suits-moved P v n g ns ms p (Some F) Open m a is = tt
-suits-moved P v n g ns ms p (Some F) (Expanded count first) m a is = has-moved P n g ns ms p F first count m a is
-suits-moved P v n g ns ms p (Some F) Leaf m a is = is
-suits-moved P v n g ns ms p (Some F) TailBound m a is = is
-suits-moved P v n g ns ms p (Some F) (WorkBound k) m a is = is
-suits-moved P v n g ns ms p (Some F) (Cited q) m a is = tt
-suits-moved P v n g ns ms p (Some F) (Left b) m a is = is
-suits-moved P v n g ns ms p (Some F) (Shut why) m a is = is
-suits-moved P v n g ns ms p None Open m a is = is
-suits-moved P v n g ns ms p None (Expanded count first) m a is = is
-suits-moved P v n g ns ms p None Leaf m a is = is
-suits-moved P v n g ns ms p None TailBound m a is = is
-suits-moved P v n g ns ms p None (WorkBound k) m a is = is
-suits-moved P v n g ns ms p None (Cited q) m a is = is
-suits-moved P v n g ns ms p None (Left b) m a is = is
-suits-moved P v n g ns ms p None (Shut why) m a is = tt
+suits-moved : (P : Project) (v : Verdict) (n g : ℕ) (ns ms : List TreeNode) (o : Option (List Entry)) (fate : RowFate) → HaveMoved n g ns ms → Each (λ q. n ≤ q) (children_of (row_saying fate)) →
+    Suits P v ns o (row_saying fate) → Suits P v ms o (row_saying (moved_fate n g fate))
+suits-moved P v n g ns ms (Some F) Open m a is = tt
+suits-moved P v n g ns ms (Some F) (Expanded count first) m a is = has-moved P n g ns ms F first count m a is
+suits-moved P v n g ns ms (Some F) Leaf m a is = is
+suits-moved P v n g ns ms (Some F) TailBound m a is = is
+suits-moved P v n g ns ms (Some F) (WorkBound k) m a is = is
+suits-moved P v n g ns ms (Some F) (Cited q) m a is = tt
+suits-moved P v n g ns ms (Some F) (Left b) m a is = is
+suits-moved P v n g ns ms (Some F) (Shut why) m a is = is
+suits-moved P v n g ns ms None Open m a is = is
+suits-moved P v n g ns ms None (Expanded count first) m a is = is
+suits-moved P v n g ns ms None Leaf m a is = is
+suits-moved P v n g ns ms None TailBound m a is = is
+suits-moved P v n g ns ms None (WorkBound k) m a is = is
+suits-moved P v n g ns ms None (Cited q) m a is = is
+suits-moved P v n g ns ms None (Left b) m a is = is
+suits-moved P v n g ns ms None (Shut why) m a is = tt
 
 fill-moved : (P : Project) (v : Verdict) (n g : ℕ) (ns ms : List TreeNode) (f : Fill) → HaveMoved n g ns ms → Each (λ q. n ≤ q) (children_of (row_saying f.fate)) → FillSuits P v ns f → FillSuits P v ms (moved_fill n g f)
 fill-moved P v n g ns ms f m a is = record {
@@ -273,21 +272,21 @@ fill-moved P v n g ns ms f m a is = record {
       let size = m.size in
       omega arith;
   closed = closed-moved n g f.fate is.closed;
-  says = subst (λ (o : Option (List Entry)). Suits P v ms (moved n g f.place) o (row_saying (moved_fate n g f.fate))) (sym (front-moved n g ns ms f.place m))
-      (suits-moved P v n g ns ms f.place (place_front ns f.place) f.fate m a is.says);
+  says = subst (λ (o : Option (List Entry)). Suits P v ms o (row_saying (moved_fate n g f.fate))) (sym (front-moved n g ns ms f.place m))
+      (suits-moved P v n g ns ms (place_front ns f.place) f.fate m a is.says);
 }
 
-new-suits : (P : Project) (v : Verdict) (ns ms : List TreeNode) (p q : ℕ) (o : Option (List Entry)) (s : RowSaying) → IsNewSaying s → Suits P v ns p o s → Suits P v ms q o s
-new-suits P v ns ms p q (Some F) row_open i is = tt
-new-suits P v ns ms p q (Some F) (row_expanded first count) i is = absurd i
-new-suits P v ns ms p q (Some F) (row_late reason) i is = absurd i
-new-suits P v ns ms p q (Some F) (row_cites c) i is = absurd i
-new-suits P v ns ms p q (Some F) (row_shut why) i is = is
-new-suits P v ns ms p q None row_open i is = is
-new-suits P v ns ms p q None (row_expanded first count) i is = absurd i
-new-suits P v ns ms p q None (row_late reason) i is = absurd i
-new-suits P v ns ms p q None (row_cites c) i is = absurd i
-new-suits P v ns ms p q None (row_shut why) i is = tt
+new-suits : (P : Project) (v : Verdict) (ns ms : List TreeNode) (o : Option (List Entry)) (s : RowSaying) → IsNewSaying s → Suits P v ns o s → Suits P v ms o s
+new-suits P v ns ms (Some F) row_open i is = tt
+new-suits P v ns ms (Some F) (row_expanded first count) i is = absurd i
+new-suits P v ns ms (Some F) (row_late reason) i is = absurd i
+new-suits P v ns ms (Some F) (row_cites c) i is = absurd i
+new-suits P v ns ms (Some F) (row_shut why) i is = is
+new-suits P v ns ms None row_open i is = is
+new-suits P v ns ms None (row_expanded first count) i is = absurd i
+new-suits P v ns ms None (row_late reason) i is = absurd i
+new-suits P v ns ms None (row_cites c) i is = absurd i
+new-suits P v ns ms None (row_shut why) i is = tt
 
 row-moved : (P : Project) (v : Verdict) (n g : ℕ) (ns ms : List TreeNode) (p q : ℕ) (r : Row) → HaveMoved n g ns ms → moved n g p ≡ q → IsNewSaying (says_row r) → RowSuits P v ns p r → RowSuits P v ms q r
 row-moved P v n g ns ms p q r m e new is =
@@ -295,7 +294,7 @@ row-moved P v n g ns ms p q r m e new is =
     record {
       line = subst (λ (x : TreeNode). IsLineAt P x.branch (line_of [] r)) same is.line;
       front = subst (λ (x : TreeNode). front_at x.branch (line_of [] r) ≡ x.front) same is.front;
-      says = subst (λ (x : TreeNode). Suits P v ms q x.front (says_row r)) same (new-suits P v ns ms p q (place_front ns p) (says_row r) new is.says);
+      says = subst (λ (x : TreeNode). Suits P v ms x.front (says_row r)) same (new-suits P v ns ms (place_front ns p) (says_row r) new is.says);
     }
 
 -- What came on a table.

@@ -57,7 +57,7 @@ closed-grows P first best T grown ns more waiting w rest fills f later g place n
   rows = λ i l. searching-row P first best (ns ++ more) (length T + i) (row_at grown i) later (g.rows i l);
   each_fill = Each-append (FillSuits P (searching best) (ns ++ more)) fills (f ∷ [])
       (Each-weaker (FillSuits P (searching first) (ns ++ more)) (FillSuits P (searching best) (ns ++ more)) fills
-      (λ x is. record { within = is.within; closed = is.closed; says = searching-suits P first best (ns ++ more) x.place (place_front (ns ++ more) x.place) (row_saying x.fate) later is.says }) g.each_fill)
+      (λ x is. record { within = is.within; closed = is.closed; says = searching-suits P first best (ns ++ more) (place_front (ns ++ more) x.place) (row_saying x.fate) later is.says }) g.each_fill)
       (suits, tt);
   each_left = g.each_left.1;
 }
@@ -91,7 +91,7 @@ grows-later P first best T grown ns more waiting left fills later g = record {
   waits = g.waits;
   rows = λ i l. searching-row P first best (ns ++ more) (length T + i) (row_at grown i) later (g.rows i l);
   each_fill = Each-weaker (FillSuits P (searching first) (ns ++ more)) (FillSuits P (searching best) (ns ++ more)) fills
-      (λ x is. record { within = is.within; closed = is.closed; says = searching-suits P first best (ns ++ more) x.place (place_front (ns ++ more) x.place) (row_saying x.fate) later is.says }) g.each_fill;
+      (λ x is. record { within = is.within; closed = is.closed; says = searching-suits P first best (ns ++ more) (place_front (ns ++ more) x.place) (row_saying x.fate) later is.says }) g.each_fill;
   each_left = g.each_left;
 }
 

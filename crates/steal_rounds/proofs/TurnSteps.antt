@@ -109,7 +109,7 @@ closed-at P rows best b origin w at now s close p stands places low falls turn r
     let suits : FillSuits P (searching (end_in now.pass.least_seen)) (ns ++ old.more) f = record {
       within = node-inside (ns ++ old.more) w.place F front;
       closed = facts.closed;
-      says = subst (λ (o : Option (List Entry)). Suits P (searching (end_in now.pass.least_seen)) (ns ++ old.more) w.place o (row_saying f.fate)) (sym front) (facts.suits (ns ++ old.more) w.place);
+      says = subst (λ (o : Option (List Entry)). Suits P (searching (end_in now.pass.least_seen)) (ns ++ old.more) o (row_saying f.fate)) (sym front) (facts.suits (ns ++ old.more));
     } in
     let many = events-many P b ns at old in
     next_at P b ns at now (waits_part s w) (closed_part s w f close) x old old.more (λ q G e. e) refl
@@ -227,13 +227,13 @@ expansion-suits P least ns w kids first origin inner z base front =
     let most = kid_nodes F (choices P F) kids in
     let inside = node-inside ns w.place F front in
     let len = length-append ns most in
-    let has : HasChildren P (ns ++ most) w.place F (length ns) (length most) = child_places_law P ns most w.place F inner inside (kid-branches P F (choices P F) kids z) in
-    let count : HasChildren P (ns ++ most) w.place F first (length kids) =
-    subst (λ (n : ℕ). HasChildren P (ns ++ most) w.place F n (length kids)) (sym base) (subst (HasChildren P (ns ++ most) w.place F (length ns)) (kid-length P F (choices P F) kids z) has) in
+    let has : HasChildren P (ns ++ most) F (length ns) (length most) = child_places_law P ns most F inner (kid-branches P F (choices P F) kids z) in
+    let count : HasChildren P (ns ++ most) F first (length kids) =
+    subst (λ (n : ℕ). HasChildren P (ns ++ most) F n (length kids)) (sym base) (subst (HasChildren P (ns ++ most) F (length ns)) (kid-length P F (choices P F) kids z) has) in
     record {
       within = omega arith;
       closed = tt;
-      says = subst (λ (o : Option (List Entry)). Suits P (searching (end_in least)) (ns ++ most) w.place o (row_expanded first (length kids))) (sym (front-more ns most w.place F front)) count;
+      says = subst (λ (o : Option (List Entry)). Suits P (searching (end_in least)) (ns ++ most) o (row_expanded first (length kids))) (sym (front-more ns most w.place F front)) count;
     }
 
 expansion-grows : (P : Project) (b : Beginning) (origin : Origin) (w : WaitingNode) (at now : Progress) (s : PartState) (kids : List (Child NodeState)) (first : ℕ) → (IsLeaf P w.node.front → ⊥) →
