@@ -1,0 +1,8 @@
+use Rattle.std.proofs.Common.{◌≡◌}
+use Rattle.node_deques.proofs.tests.steal_some.Given as goal
+
+abbrev pub invariant-loop : goal.invariant-loop
+invariant-loop l = record {
+  deque : l.thief.deque ≡ l.initial.thief.deque;
+  passes : l.thief.view.passes ≡ l.initial.thief.view.passes;
+}
