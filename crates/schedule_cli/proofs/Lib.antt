@@ -1,11 +1,15 @@
-pub mod CommandWords
-pub mod OptionWords
 pub mod TwinLines
 pub mod CountedFronts
+pub mod NoLater
+pub mod PlanLines
+pub mod Starts
 pub mod SearchedReports
+pub mod FedTexts
 pub mod FedReports
 pub mod TextFronts
 pub mod StatusesTold
 pub mod ReportsTold
+pub mod PlansTold
 pub mod ReportsJudged
+pub mod BoundsTold
 pub mod TrialsTold

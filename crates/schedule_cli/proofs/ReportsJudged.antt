@@ -19,12 +19,12 @@ use Rattle.schedule_cli.specs.declared.answer.Judgement.TheVariants as judgement
 use Rattle.schedule_cli.specs.declared.answer.Outcome.TheVariants as outcomes
 use Rattle.schedule_cli.specs.declared.status.Status.{Status}
 use Rattle.schedule_cli.specs.declared.status.Status.TheVariants as statuses
-use Rattle.schedule_cli.specs.Words.{IsCheck, project_name, report_name}
+use Rattle.plan_words.specs.Words.{IsCheck, project_name, report_name}
 use Rattle.schedule_cli.specs.Status.{IsServed}
 use Rattle.schedule_cli.specs.Answer.{IsAnswerTo, IsJudgementTo, Judges, status_of, status_of_judgement, text_of, text_of_judgement}
 use Rattle.schedule_cli.specs.Laws.{OwnReportLaw}
-use Rattle.schedule_cli.proofs.CommandWords.{bad_is_none, not_made, not_solved, judged_not_shown, not_tried}
-use Rattle.schedule_cli.proofs.StatusesTold.{asks_solve, asks_show}
+use Rattle.plan_words.proofs.CommandWords.{bad_is_none, not_made, not_solved, judged_not_shown, not_tried, planned_not_judged, bound_not_judged, verified_not_judged}
+use Rattle.schedule_cli.proofs.StatusesTold.{asks_solve, asks_plan, asks_show, asks_bound}
 use Rattle.schedule_cli.proofs.ReportsTold.{tells_accepted}
 
 as_its : (P : Project) (bytes : List ℕ) (accepted : Accepts P bytes) → AcceptsAs P bytes accepted.report.verdict
@@ -76,8 +76,11 @@ judges words texts (answers.BadWords bad) status before now is e gains check ser
 judges words texts (answers.Made printed) status before now is e gains check served = absurd (not_made words (inr (inl check)) is.0)
 judges words texts (answers.Tried trial) status before now is e gains check served = absurd (not_tried words (inr (inl check)) is.0)
 judges words texts (answers.Judged j) status before now is e gains check served = judges-by words texts j status before now is e gains
+judges words texts (answers.Verified j) status before now is e gains check served = absurd (verified_not_judged words is.verify check)
 judges words texts (answers.Read (outcomes.Solved report)) status before now is e gains check served = absurd (not_solved words check (asks_solve words texts (project_name words) report is))
+judges words texts (answers.Read (outcomes.Planned plan)) status before now is e gains check served = absurd (planned_not_judged words (asks_plan words texts (project_name words) plan is) check)
 judges words texts (answers.Read (outcomes.Shown printed)) status before now is e gains check served = absurd (judged_not_shown words check (asks_show words texts (project_name words) (outcomes.Shown printed) is))
+judges words texts (answers.Read (outcomes.Bounded printed)) status before now is e gains check served = absurd (bound_not_judged words (asks_bound words texts (project_name words) (outcomes.Bounded printed) is) check)
 judges words texts (answers.Read (outcomes.BadProject f)) status before now is e gains check served = absurd (subst IsServed e served)
 
 -- ---- what `solve` told is accepted by `check`
@@ -93,8 +96,11 @@ accepted-done checks later P (answers.Judged (judgements.Refused line number)) c
     let own : Accepts is.project is.judged.report = subst (λ (bytes : List ℕ). Accepts is.project bytes) (sym is.judged.is_report) (subst (λ (Q : Project). Accepts Q (text_under later (report_name checks))) same accepts) in
     let other : ◌≡◌ {A = Result Verdict Refused} (Err (broken line number)) (Ok own.report.verdict) = (is.judged.judged.accepted own.report.verdict).1 (as_its is.project is.judged.report own) in
     absurd cc
+accepted-done checks later P (answers.Verified j) check is reads accepts = absurd (verified_not_judged checks is.verify check)
 accepted-done checks later P (answers.Read (outcomes.Solved report)) check is reads accepts = absurd (not_solved checks check is.2.0)
+accepted-done checks later P (answers.Read (outcomes.Planned plan)) check is reads accepts = absurd (planned_not_judged checks is.2 check)
 accepted-done checks later P (answers.Read (outcomes.Shown printed)) check is reads accepts = absurd (judged_not_shown checks check is.2)
+accepted-done checks later P (answers.Read (outcomes.Bounded printed)) check is reads accepts = absurd (bound_not_judged checks is.2 check)
 accepted-done checks later P (answers.Read (outcomes.BadProject f)) check is reads accepts = absurd (never_both (text_under later (project_name checks)) P f reads is.1)
 
 pub own_report_law : OwnReportLaw

@@ -12,18 +12,18 @@ use Rattle.schedule_cli.specs.declared.answer.Answer.TheVariants as answers
 use Rattle.schedule_cli.specs.declared.answer.Outcome.TheVariants as outcomes
 use Rattle.schedule_cli.specs.declared.status.Status.{Status}
 use Rattle.schedule_cli.specs.declared.status.Status.TheVariants as statuses
-use Rattle.schedule_cli.specs.Words.{IsSolve, project_name, workers_in, nodes_in, prints_log}
+use Rattle.plan_words.specs.Words.{IsSolve, project_name, workers_in, nodes_in, tries_in, prints_log}
 use Rattle.schedule_cli.specs.Status.{IsSolved}
 use Rattle.schedule_cli.specs.Solve.{IsSolution, IsNoLaterThanFirst, ExpandsNoTwins, HasAtMostFronts, with_log, IsSearched}
 use Rattle.schedule_cli.specs.Answer.{IsOutcomeUnder, IsAnswerTo, IsNamed, Tells, WhereSolved, TellsAccepted, status_of, status_of_verdict, text_of}
-use Rattle.schedule_cli.proofs.CommandWords.{bad_is_none, not_made, not_shown, not_solved, not_tried}
-use Rattle.schedule_cli.proofs.StatusesTold.{asks_show}
+use Rattle.plan_words.proofs.CommandWords.{bad_is_none, not_made, not_shown, not_solved, not_tried, planned_not_solved, bound_not_solved, verified_not_solved}
+use Rattle.schedule_cli.proofs.StatusesTold.{asks_plan, asks_show, asks_bound}
 
 -- the project under the name, of which this is the report
 record IsReported (words : List (List ℕ)) (texts : Option (List (List ℕ × List ℕ))) (told : Report) : Type 0 where
   project : Project
   named : IsNamed words texts project
-  searched : IsSearched project (workers_in words) (nodes_in words) (prints_log words) told
+  searched : IsSearched project (workers_in words) (nodes_in words) (tries_in words) (prints_log words) told
 
 reported : (words : List (List ℕ)) (texts : Option (List (List ℕ × List ℕ))) (told : Report) → IsOutcomeUnder words texts (project_name words) (outcomes.Solved told) → IsReported words texts told
 reported words None told is = record { project = is.1.0; named = (is.0, is.1.1); searched = is.1.2.1 }
@@ -31,7 +31,7 @@ reported words (Some ts) told is = record { project = is.0; named = is.1; search
 
 -- what is true of each report of a search is true of what was told
 abbrev Follows : List (List ℕ) → (Project → Report → Type 0) → Type 0
-Follows words Q = (P : Project) (told : Report) (is : IsSearched P (workers_in words) (nodes_in words) (prints_log words) told) → Q P is.whole
+Follows words Q = (P : Project) (told : Report) (is : IsSearched P (workers_in words) (nodes_in words) (tries_in words) (prints_log words) told) → Q P is.whole
 
 pub verdict_with_log : (log : Bool) (report : Report) → (with_log log report).verdict ≡ report.verdict
 verdict_with_log true report = refl
@@ -43,6 +43,7 @@ tells words texts (answers.BadWords bad) status before now Q is e gains follows 
 tells words texts (answers.Made printed) status before now Q is e gains follows = λ solve solved. absurd (not_made words (inl solve) is.0)
 tells words texts (answers.Tried trial) status before now Q is e gains follows = λ solve solved. absurd (not_tried words (inl solve) is.0)
 tells words texts (answers.Judged j) status before now Q is e gains follows = λ solve solved. absurd (not_solved words is.check solve)
+tells words texts (answers.Verified j) status before now Q is e gains follows = λ solve solved. absurd (verified_not_solved words is.verify solve)
 tells words texts (answers.Read (outcomes.Solved told)) status before now Q is e gains follows = λ solve solved.
     let r = reported words texts told is in
     let whole = r.searched.whole in
@@ -55,10 +56,12 @@ tells words texts (answers.Read (outcomes.Solved told)) status before now Q is e
       is_so = follows r.project told r.searched;
     }
 tells words texts (answers.Read (outcomes.Shown printed)) status before now Q is e gains follows = λ solve solved. absurd (not_shown words solve (asks_show words texts (project_name words) (outcomes.Shown printed) is))
+tells words texts (answers.Read (outcomes.Planned plan)) status before now Q is e gains follows = λ solve solved. absurd (planned_not_solved words (asks_plan words texts (project_name words) plan is) solve)
+tells words texts (answers.Read (outcomes.Bounded printed)) status before now Q is e gains follows = λ solve solved. absurd (bound_not_solved words (asks_bound words texts (project_name words) (outcomes.Bounded printed) is) solve)
 tells words texts (answers.Read (outcomes.BadProject f)) status before now Q is e gains follows = λ solve solved. absurd (subst IsSolved e solved)
 
 pub tells_solution : (words : List (List ℕ)) (texts : Option (List (List ℕ × List ℕ))) (answer : Answer) (status : Status) (before now : Option (List ℕ)) → IsAnswerTo words texts answer →
-    status ≡ status_of answer → Gains before now (text_of answer) → WhereSolved words texts status before now (λ P report. IsSolution P (workers_in words) (nodes_in words) report)
+    status ≡ status_of answer → Gains before now (text_of answer) → WhereSolved words texts status before now (λ P report. IsSolution P (workers_in words) (nodes_in words) (tries_in words) report)
 tells_solution words texts answer status before now is e gains = tells words texts answer status before now _ is e gains (λ P told s. s.solution)
 
 pub tells_no_later : (words : List (List ℕ)) (texts : Option (List (List ℕ × List ℕ))) (answer : Answer) (status : Status) (before now : Option (List ℕ)) → IsAnswerTo words texts answer →

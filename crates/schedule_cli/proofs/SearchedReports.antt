@@ -1,10 +1,8 @@
 -- What was found is the report that `solve` promises.
-use Rattle.std.proofs.Common.{◌≡◌, ℕ, ◌<◌, ◌≤◌, refl, sym, ap, subst, arith, Bool, true, false, Option, Some, None, List}
-use Rattle.rcpsp_model.specs.declared.parts.Placing.{Placing}
+use Rattle.std.proofs.Common.{◌≡◌, ℕ, ◌<◌, ◌≤◌, refl, sym, subst, arith, Bool, true, false, Option, Some, None, List}
 use Rattle.rcpsp_model.specs.declared.parts.Verdict.{Verdict}
 use Rattle.rcpsp_model.specs.Project.{Project, IsProject}
 use Rattle.rcpsp_model.specs.Schedule.{end_of, entries}
-use Rattle.rcpsp_model.proofs.OnePlan.{one_first_plan_law}
 use Rattle.proof_log.specs.declared.report.LogLine.{LogLine}
 use Rattle.proof_log.specs.declared.report.Report.{Report}
 use Rattle.proof_log.specs.Report.{duration_of, IsReport}
@@ -12,27 +10,27 @@ use Rattle.log_truth.specs.Holds.{LogHolds}
 use Rattle.log_truth.specs.Laws as truth
 use Rattle.search_log.specs.Lean.{end_number, of_first}
 use Rattle.search_rounds.specs.declared.found.Found.{Found}
-use Rattle.search_rounds.specs.Found.{end_of_plan, report_of, IsFoundFromFirst}
+use Rattle.search_rounds.specs.Found.{end_of_plan, report_of}
 use Rattle.search_rounds.specs.Laws as search
 use Rattle.serial_scheme.proofs.PlanFacts.{first-end}
-use Rattle.schedule_cli.specs.Solve.{IsLeanFromFirst, IsSolution, IsDoneBy, IsNoLaterThanFirst, with_log, IsSearched}
+use Rattle.schedule_cli.specs.Solve.{IsLeanFromStart, IsFoundFromStart, IsSolution, IsDoneBy, IsNoLaterThanFirst, with_log, IsSearched}
 use Rattle.schedule_cli.proofs.TwinLines.{no_twins}
+use Rattle.schedule_cli.proofs.Starts.{start_no_later}
 use Rattle.schedule_cli.proofs.CountedFronts.{limit_ends, fronts_suffice}
 
 done-by : (o : Option ℕ) (n : ℕ) → end_number o ≤ n → n < 4294967295 → IsDoneBy o n
 done-by None n le few = absurd (omega (arith, le, few))
 done-by (Some d) n le few = le
 
-no-later : (P : Project) (workers : ℕ) (verdict : Verdict) (lines : List LogLine) → IsProject P → IsLeanFromFirst P workers verdict lines → IsNoLaterThanFirst P verdict
-no-later P workers verdict lines p lean plan first =
-    let same : lean.plan ≡ Some plan = one_first_plan_law P lean.plan (Some plan) p.acyclic lean.first first in
+no-later : (P : Project) (workers tries : ℕ) (verdict : Verdict) (lines : List LogLine) → IsProject P → IsLeanFromStart P workers tries verdict lines → IsNoLaterThanFirst P verdict
+no-later P workers tries verdict lines p lean plan first =
     let soon : end_of P (entries plan) ≤ 1290000 = first-end P p (Some plan) first in
-    let at : end_number (end_of_plan P lean.plan) ≡ end_of P (entries plan) = ap (λ (o : Option (List Placing)). end_number (end_of_plan P o)) same in
+    let at : end_number (end_of_plan P lean.plan) ≤ end_of P (entries plan) = start_no_later P tries lean.plan plan p lean.start first in
     let low = lean.lean.lean.duration_least.least (end_number (end_of_plan P lean.plan)) (of_first refl) in
     done-by (duration_of verdict) (end_of P (entries plan)) (omega (arith, low, at)) (omega (arith, soon))
 
-solution : search.ReportLaw → truth.HoldsLaw → (P : Project) (workers nodes : ℕ) (f : Found) → IsProject P → IsFoundFromFirst P workers nodes f → IsSolution P workers nodes (report_of f)
-solution texts truths P workers nodes f p is =
+solution : search.ReportLaw → truth.HoldsLaw → (P : Project) (workers nodes tries : ℕ) (f : Found) → IsProject P → IsFoundFromStart P workers nodes tries f → IsSolution P workers nodes tries (report_of f)
+solution texts truths P workers nodes tries f p is =
     let found = is.found in
     let holds = found.holds in
     let form = texts P workers nodes (end_of_plan P is.plan) f p found in
@@ -46,14 +44,14 @@ solution texts truths P workers nodes f p is =
       lines = f.log;
       log = refl;
       limit = λ limit. limit_ends P nodes f.verdict f.log log_holds limit (found.limit limit);
-      lean = record { plan = is.plan; first = is.first; starts = f.starts; origins = f.origins; lean = found.lean };
+      lean = record { plan = is.plan; start = is.start; starts = f.starts; origins = f.origins; lean = found.lean };
     }
 
-pub searched : search.ReportLaw → truth.HoldsLaw → (P : Project) (workers nodes : ℕ) (log : Bool) (f : Found) (told : Report) → IsProject P → IsFoundFromFirst P workers nodes f →
-    told ≡ with_log log (report_of f) → IsSearched P workers nodes log told
+pub searched : search.ReportLaw → truth.HoldsLaw → (P : Project) (workers nodes tries : ℕ) (log : Bool) (f : Found) (told : Report) → IsProject P → IsFoundFromStart P workers nodes tries f →
+    told ≡ with_log log (report_of f) → IsSearched P workers nodes tries log told
 unfolding solution
-searched texts truths P workers nodes log f told p is same =
-    let found = solution texts truths P workers nodes f p is in
+searched texts truths P workers nodes tries log f told p is same =
+    let found = solution texts truths P workers nodes tries f p is in
     let holds = is.found.holds in
     let lines : Some f.log ≡ Some holds.lines = holds.is_its in
     let own : holds.lines ≡ f.log = cc in
@@ -62,11 +60,11 @@ searched texts truths P workers nodes log f told p is same =
       whole = report_of f;
       is_told = same;
       solution = found;
-      no_later = no-later P workers f.verdict f.log p found.lean;
+      no_later = no-later P workers tries f.verdict f.log p found.lean;
       no_twins = λ one lines' is_its i k twins.
           let given : f.log ≡ lines' = cc in
           let log' = subst (λ (ls : List LogLine). LogHolds P f.verdict ls) given log_holds in
-          no_twins P f.verdict lines' log'.log (subst (λ (ls : List LogLine). IsLeanFromFirst P 1 f.verdict ls) given (subst (λ (w : ℕ). IsLeanFromFirst P w f.verdict f.log) one found.lean)) i k twins;
+          no_twins P tries f.verdict lines' log'.log (subst (λ (ls : List LogLine). IsLeanFromStart P 1 tries f.verdict ls) given (subst (λ (w : ℕ). IsLeanFromStart P w tries f.verdict f.log) one found.lean)) i k twins;
       ends = λ few limit. fronts_suffice P nodes f.verdict f.log log_holds few (found.limit limit);
     }
 
@@ -75,5 +73,5 @@ pub text_with_log : (log : Bool) (report : Report) → IsReport report → IsRep
 text_with_log true report is = is
 text_with_log false report is = record { duration = is.duration; lower = is.lower; has_best = is.has_best; best = is.best; log = tt }
 
-pub told_text : search.ReportLaw → (P : Project) (workers nodes : ℕ) (log : Bool) (f : Found) (told : Report) → IsProject P → IsFoundFromFirst P workers nodes f → told ≡ with_log log (report_of f) → IsReport told
-told_text texts P workers nodes log f told p is same = subst IsReport (sym same) (text_with_log log (report_of f) (texts P workers nodes (end_of_plan P is.plan) f p is.found).0)
+pub told_text : search.ReportLaw → (P : Project) (workers nodes tries : ℕ) (log : Bool) (f : Found) (told : Report) → IsProject P → IsFoundFromStart P workers nodes tries f → told ≡ with_log log (report_of f) → IsReport told
+told_text texts P workers nodes tries log f told p is same = subst IsReport (sym same) (text_with_log log (report_of f) (texts P workers nodes (end_of_plan P is.plan) f p is.found).0)

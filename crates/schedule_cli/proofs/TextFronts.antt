@@ -8,8 +8,8 @@ use Rattle.psplib_layout.proofs.OneContent.{long_text}
 use Rattle.rcpsp_model.specs.Project.{Project}
 use Rattle.sched_base.specs.Outside.{text_under}
 use Rattle.schedule_cli.specs.declared.answer.Outcome.{Outcome}
-use Rattle.schedule_cli.specs.declared.answer.Outcome.TheVariants.{Solved, Shown, BadProject}
-use Rattle.schedule_cli.specs.Words.{project_name}
+use Rattle.schedule_cli.specs.declared.answer.Outcome.TheVariants.{Solved, Planned, Shown, Bounded, BadProject}
+use Rattle.plan_words.specs.Words.{project_name}
 use Rattle.schedule_cli.specs.Answer.{IsOutcomeOf, IsOutcomeUnder, IsNamed}
 
 long_front : (text : List ℕ) (most : ℕ) → MOST_BYTES < most → MOST_BYTES < length text → MOST_BYTES < length (take most text)
@@ -23,7 +23,9 @@ front_outcome words text most outcome more is = elim (cases_lt MOST_BYTES (lengt
   where
     of_long : (outcome : Outcome) → IsOutcomeOf words (take most text) outcome → MOST_BYTES < length (take most text) → MOST_BYTES < length text → IsOutcomeOf words text outcome
     of_long (Solved report) is front long = let few = is.1.has_content.few_bytes in absurd (omega arith)
+    of_long (Planned plan) is front long = let few = is.1.has_content.few_bytes in absurd (omega arith)
     of_long (Shown printed) is front long = let few = is.1.has_content.few_bytes in absurd (omega arith)
+    of_long (Bounded printed) is front long = let few = is.1.has_content.few_bytes in absurd (omega arith)
     of_long (BadProject f) is front long = (
       is.0,
       elim is.1 [

@@ -14,11 +14,11 @@ use Rattle.schedule_cli.specs.declared.answer.Answer.TheVariants as answers
 use Rattle.schedule_cli.specs.declared.answer.Trial.{Trial}
 use Rattle.schedule_cli.specs.declared.status.Status.{Status}
 use Rattle.schedule_cli.specs.declared.status.Status.TheVariants as statuses
-use Rattle.schedule_cli.specs.Words.{IsTrial, project_name, seed_in, jobs_in, modes_in}
+use Rattle.plan_words.specs.Words.{IsTrial, project_name, seed_in, jobs_in, modes_in}
 use Rattle.schedule_cli.specs.Status.{IsSolved}
 use Rattle.schedule_cli.specs.Answer.{IsAnswerTo, IsTrialTo, Tries, status_of, status_of_verdict, text_of, text_of_trial, size_lines, verdict_lines}
 use Rattle.schedule_cli.specs.Laws.{SameTrialLaw}
-use Rattle.schedule_cli.proofs.CommandWords.{bad_is_none, make_not_tried, not_tried}
+use Rattle.plan_words.proofs.CommandWords.{bad_is_none, make_not_tried, not_tried}
 use Rattle.schedule_cli.proofs.StatusesTold.{asks_project, told_tried}
 use Rattle.schedule_cli.proofs.ReportsTold.{verdict_with_log, limit_is}
 
@@ -46,6 +46,7 @@ pub tries : (words : List (List ℕ)) (texts : Option (List (List ℕ × List �
 tries words texts (answers.BadWords bad) status before now is e gains trial solved = absurd (bad_is_none words bad.place is trial.0)
 tries words texts (answers.Made printed) status before now is e gains trial solved = absurd (make_not_tried words is.0 trial)
 tries words texts (answers.Judged j) status before now is e gains trial solved = absurd (not_tried words (inr (inl is.check)) trial)
+tries words texts (answers.Verified j) status before now is e gains trial solved = absurd (not_tried words (inr (inr (inr (inr (inr is.verify))))) trial)
 tries words texts (answers.Tried t) status before now is e gains trial solved = tries-by words t status before now is e gains
 tries words texts (answers.Read outcome) status before now is e gains trial solved = absurd (not_tried words (asks_project words texts (project_name words) outcome is) trial)
 

@@ -14,7 +14,7 @@ use Rattle.log_truth.proofs.OneLine.{get-In, one_node_law}
 use Rattle.search_log.specs.declared.row.Origin.{Origin}
 use Rattle.search_log.specs.Lean.{Seen, seen_node, seen_nodes, seen_lines, IsBegun, IsKnown, by_round, by_turn, IsLeanLog}
 use Rattle.search_rounds.specs.Found.{end_of_plan}
-use Rattle.schedule_cli.specs.Solve.{IsLeanFromFirst, DominateEachOther}
+use Rattle.schedule_cli.specs.Solve.{IsLeanFromStart, DominateEachOther}
 
 -- the node with this place, with its origin
 record SeenAt (ns : List LogNode) (os : List Origin) (i : ℕ) (n : LogNode) : Type 0 where
@@ -74,9 +74,9 @@ no-twins-at P lines first starts duration origins log lean i k one other F G at 
       | inr (inr known) ↦ absurd (lean.lean.new s t F G a b x y known g f up)
     ]
 
-pub no_twins : (P : Project) (verdict : Verdict) (lines : List LogLine) → IsTreeLog P lines → IsLeanFromFirst P 1 verdict lines → (i k : ℕ) → DominateEachOther P lines i k → i ≡ k
-no_twins P verdict lines log lean zero k twins = let none = twins.one_is in absurd cc
-no_twins P verdict lines log lean (suc i) zero twins = let none = twins.other_is in absurd cc
-no_twins P verdict lines log lean (suc i) (suc k) twins =
+pub no_twins : (P : Project) (tries : ℕ) (verdict : Verdict) (lines : List LogLine) → IsTreeLog P lines → IsLeanFromStart P 1 tries verdict lines → (i k : ℕ) → DominateEachOther P lines i k → i ≡ k
+no_twins P tries verdict lines log lean zero k twins = let none = twins.one_is in absurd cc
+no_twins P tries verdict lines log lean (suc i) zero twins = let none = twins.other_is in absurd cc
+no_twins P tries verdict lines log lean (suc i) (suc k) twins =
     ap suc (no-twins-at P lines (end_of_plan P lean.plan) lean.starts (duration_of verdict) lean.origins log lean.lean i k twins.one twins.other twins.front twins.other_front twins.one_is
     twins.other_is twins.expanded twins.other_expanded twins.front_is twins.other_front_is twins.dominates twins.dominated)

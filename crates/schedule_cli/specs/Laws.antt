@@ -3,7 +3,7 @@ use Rattle.std.specs.Prelude.{◌≡◌, ℕ, true, List, ◌++◌, Option, Some
 use Rattle.sched_base.specs.Outside.{text_under}
 use Rattle.schedule_cli.specs.declared.status.Status.{Status}
 use Rattle.schedule_cli.specs.declared.status.Status.TheVariants.{Done, Limit}
-use Rattle.schedule_cli.specs.Words.{IsSolve, IsCheck, IsTrial, project_name, report_name, seed_in, jobs_in, modes_in, prints_log}
+use Rattle.plan_words.specs.Words.{IsSolve, IsCheck, IsTrial, project_name, report_name, seed_in, jobs_in, modes_in, prints_log}
 use Rattle.schedule_cli.specs.Status.{IsSolved}
 use Rattle.schedule_cli.specs.Answer.{Runs}
 

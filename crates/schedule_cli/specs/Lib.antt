@@ -1,7 +1,9 @@
-pub mod Words
-pub mod Options
 pub mod Status
+pub mod Planning
 pub mod Solve
+pub mod Feeding
 pub mod Judging
+pub mod Bounding
+pub mod Verifying
 pub mod Answer
 pub mod Laws

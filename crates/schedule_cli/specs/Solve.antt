@@ -17,7 +17,9 @@ use Rattle.log_truth.specs.Log.{is_expanded, LogNode, front_of, nodes}
 use Rattle.log_truth.specs.Holds.{IsLimit, IsLeftNumber, expanded_in, numbered, Holds, Accepts}
 use Rattle.search_log.specs.declared.row.Origin.{Origin}
 use Rattle.search_log.specs.Lean.{IsLeanLog}
-use Rattle.search_rounds.specs.Found.{end_of_plan}
+use Rattle.search_rounds.specs.declared.found.Found.{Found}
+use Rattle.search_rounds.specs.Found.{end_of_plan, IsFound}
+use Rattle.schedule_cli.specs.Planning.{IsStart}
 
 -- exactly so many lines are expanded, and one was left, with a bound below the duration, if there is one
 pub record EndsAtLimit (nodes : ℕ) (verdict : Verdict) (lines : List LogLine) : Type 0 where
@@ -27,23 +29,29 @@ pub record EndsAtLimit (nodes : ℕ) (verdict : Verdict) (lines : List LogLine) 
   pub below : IfSome (duration_of verdict) (λ d. bound < d)
 
 -- No expansion was wasted: each line has its round, its worker and its turn, and what was expanded was needed by what was known
--- then, where the search began with the first plan
-pub record IsLeanFromFirst (P : Project) (workers : ℕ) (verdict : Verdict) (lines : List LogLine) : Type 0 where
+-- then, where the search began with the first plan, or with the plan from so many tries
+pub record IsLeanFromStart (P : Project) (workers tries : ℕ) (verdict : Verdict) (lines : List LogLine) : Type 0 where
   pub plan : Option (List Placing)
-  pub first : IsFirstPlan P plan
+  pub start : IsStart P tries plan
   pub starts : List ℕ
   pub origins : List Origin
   pub lean : IsLeanLog P workers (end_of_plan P plan) starts (duration_of verdict) lines origins
 
--- the report, with its log, of a search by so many workers that may expand so many nodes
-pub record IsSolution (P : Project) (workers nodes : ℕ) (report : Report) : Type 0 where
+-- what so many workers found that may expand so many nodes, in a search that began so
+pub record IsFoundFromStart (P : Project) (workers nodes tries : ℕ) (f : Found) : Type 0 where
+  pub plan : Option (List Placing)
+  pub start : IsStart P tries plan
+  pub found : IsFound P workers (end_of_plan P plan) nodes f
+
+-- the report, with its log, of such a search
+pub record IsSolution (P : Project) (workers nodes tries : ℕ) (report : Report) : Type 0 where
   pub holds : Holds P report
   pub claim : Claim P report.verdict report.best
   pub accepted : Accepts P (text report)
   pub lines : List LogLine
   pub log : report.log ≡ Some lines
   pub limit : IsLimit report.verdict → EndsAtLimit nodes report.verdict lines
-  pub lean : IsLeanFromFirst P workers report.verdict lines
+  pub lean : IsLeanFromStart P workers tries report.verdict lines
 
 -- ---- what follows from a lean log
 
@@ -95,16 +103,16 @@ with_log false report = record report { log = None }
 
 -- The report of such a search, as it is told: with its log or without. It ends no later than the first plan; one worker expands
 -- no two nodes of which each dominates the other; and where as many expansions are allowed as there are fronts, they suffice
-pub record IsSearched (P : Project) (workers nodes : ℕ) (log : Bool) (told : Report) : Type 0 where
+pub record IsSearched (P : Project) (workers nodes tries : ℕ) (log : Bool) (told : Report) : Type 0 where
   pub whole : Report
   pub is_told : told ≡ with_log log whole
-  pub solution : IsSolution P workers nodes whole
+  pub solution : IsSolution P workers nodes tries whole
   pub no_later : IsNoLaterThanFirst P whole.verdict
   pub no_twins : workers ≡ 1 → ExpandsNoTwins P whole
   pub ends : HasAtMostFronts P nodes → IsLimit whole.verdict → ⊥
 
--- the verdict of the report of such a search
+-- the verdict of the report of such a search, which began with the first plan
 pub record IsSearchedTo (P : Project) (workers nodes : ℕ) (verdict : Verdict) : Type 0 where
   pub report : Report
-  pub searched : IsSearched P workers nodes false report
+  pub searched : IsSearched P workers nodes 0 false report
   pub verdict_is : verdict ≡ report.verdict

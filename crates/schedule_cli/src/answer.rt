@@ -1,8 +1,10 @@
 ghost use Rattle.std.specs.Prelude.{◌≡◌};
-ghost use Rattle.schedule_cli.specs.Answer.{status_of_verdict};
+ghost use Rattle.schedule_cli.specs.Answer.{status_of_plan, status_of_verdict};
 
+use crate::planning::Plan;
 use crate::status::Status;
-use crate::words::BadWords;
+use bound_checker::BoundRefusal;
+use plan_words::BadWords;
 use proof_log::Report;
 use psplib_layout::Refusal;
 use rcpsp_model::Verdict;
@@ -12,8 +14,12 @@ use rcpsp_model::Verdict;
 pub enum Outcome {
     /// It is a project that is to be solved, with this report.
     Solved(Report),
+    /// It is a project that is to be planned: this plan, or none was made.
+    Planned(Option<Plan>),
     /// It is a project that is to be shown, with this canonical text.
     Shown(Vec<u8>),
+    /// It is a project whose window bound is asked for, with this text.
+    Bounded(Vec<u8>),
     /// It is no project.
     BadProject(Refusal),
 }
@@ -26,6 +32,9 @@ pub enum Judgement {
     /// A line of it, from 1, breaks a rule, for a reason of a number from 1 to 9.
     Refused { line: u32, reason: u8 },
 }
+
+/// What the text of a bound comes to where it is judged: its bound, or the first line that may not stand there.
+pub type BoundJudgement = Result<u32, BoundRefusal>;
 
 /// What a made project comes to where it is solved.
 #[derive(Clone, Copy, Debug, PartialEq, Eq)]
@@ -45,6 +54,8 @@ pub enum Answer {
     Read(Outcome),
     /// The words speak of a report, which comes to this.
     Judged(Judgement),
+    /// The words speak of the text of a bound, which comes to this.
+    Verified(BoundJudgement),
     /// The words ask for a made project, with this canonical text.
     Made(Vec<u8>),
     /// The words ask to solve a made project, which comes to this.
@@ -64,6 +75,16 @@ fn verdict_status(verdict: Verdict) -> Status
     }
 }
 
+/// The status of a plan, or of none.
+fn plan_status(plan: &Option<Plan>) -> Status
+    ensures { result ≡ status_of_plan plan.now }
+{
+    match plan {
+        Some(_) => Status::Done,
+        None => Status::Limit,
+    }
+}
+
 impl Answer {
     ghost use Rattle.schedule_cli.specs.Answer.{status_of};
 
@@ -73,11 +94,16 @@ impl Answer {
     {
         match self {
             Answer::Read(Outcome::Solved(report)) => verdict_status(report.verdict),
-            Answer::Read(Outcome::Shown(_)) | Answer::Made(_) => Status::Done,
+            Answer::Read(Outcome::Planned(plan)) => plan_status(plan),
+            Answer::Read(Outcome::Shown(_) | Outcome::Bounded(_)) | Answer::Made(_) => {
+                Status::Done
+            }
             Answer::Read(Outcome::BadProject(_)) => Status::BadProject,
             Answer::Tried(trial) => verdict_status(trial.verdict),
             Answer::Judged(Judgement::Accepted(_)) => Status::Done,
             Answer::Judged(Judgement::Refused { .. }) => Status::ReportRefused,
+            Answer::Verified(Ok(_)) => Status::Done,
+            Answer::Verified(Err(_)) => Status::ReportRefused,
             Answer::BadWords(_) => Status::BadWords,
         }
     }

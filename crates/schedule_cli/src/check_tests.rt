@@ -9,7 +9,7 @@ use std::alloc::{AllocError, Global};
 use std::process::Abort;
 use std::thread::Threads;
 use worked_projects::{
-    AFTER_A_BREAK, EIGHTEEN_JOBS, EIGHTEEN_JOBS_TIGHT, LATE_BREAK, NEEDS_DIFFER, TWINS,
+    AFTER_A_BREAK, EIGHTEEN_JOBS, EIGHTEEN_JOBS_TIGHT, LATE_BREAK, NEEDS_DIFFER, NO_LENGTH, TWINS,
     TWO_IN_TURN, WorkedProject, build,
 };
 
@@ -23,7 +23,10 @@ struct Case {
     edits: &'static [Edit],
 }
 
-const CASES: [Case; 4] = [
+/// A line that is a byte longer than any may be.
+const DIGITS: &str = "01234567890123456789012345678901234567890123456789012345678901234\n";
+
+const CASES: [Case; 5] = [
     Case {
         project: &TWO_IN_TURN,
         options: "",
@@ -47,7 +50,20 @@ const CASES: [Case; 4] = [
     Case {
         project: &TWINS,
         options: "",
-        edits: &[(21, 1, "2 1 0 C 10\n", (21, 6))],
+        edits: &[
+            (21, 1, "2 1 0 C 10\n", (21, 6)),
+            (21, 1, "2 1 0 C 99\n", (21, 6)),
+            (21, 1, "2 1 0 C 0\n", (21, 6)),
+            (21, 1, "2 1 0 C 3\n", (21, 6)),
+            (21, 1, "2 1 0 C 04\n", (21, 1)),
+            (13, 0, "- - - E\n", (13, 2)),
+            (2, 1, DIGITS, (2, 1)),
+        ],
+    },
+    Case {
+        project: &NO_LENGTH,
+        options: "",
+        edits: &[(16, 1, "5 1 3 E\n", (16, 3))],
     },
     Case {
         project: &NEEDS_DIFFER,
@@ -65,7 +81,7 @@ fn named(alloc: Global, name: &str, text: &[u8]) -> Result<(String, Vec<u8>), Al
 
 /// A shelf with a project under `p` and a report under `r`, which gives so many bytes in a read at most, and whose listed calls
 /// fail.
-fn shelf_with(
+pub fn shelf_with(
     alloc: Global,
     project: &[u8],
     report: &[u8],
@@ -79,13 +95,13 @@ fn shelf_with(
 }
 
 /// The canonical text of a project.
-fn text_of<R: Abort + AllocGlobal>(rt: &R, project: &WorkedProject) -> Vec<u8> {
+pub fn text_of<R: Abort + AllocGlobal>(rt: &R, project: &WorkedProject) -> Vec<u8> {
     let project = build(rt.alloc(), project).expect(rt, "a project");
     print_project(rt.alloc(), &project).expect(rt, "memory")
 }
 
 /// The report that is printed of a project.
-fn report_of<R: Threads + Abort + Sync + AllocGlobal>(
+pub fn report_of<R: Threads + Abort + Sync + AllocGlobal>(
     rt: &R,
     project: &[u8],
     options: &str,
@@ -103,7 +119,7 @@ fn report_of<R: Threads + Abort + Sync + AllocGlobal>(
 }
 
 /// Where a line of a text begins, counted from 1; the end of the text where there are fewer lines.
-fn begin_of(text: &[u8], line: usize) -> usize {
+pub fn begin_of(text: &[u8], line: usize) -> usize {
     let mut begin = 0;
     let mut number = 1;
     for (place, byte) in text.iter().enumerate() {

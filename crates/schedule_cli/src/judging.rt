@@ -5,9 +5,10 @@ ghost use Rattle.sched_base.specs.Outside.{Rose};
 ghost use Rattle.rcpsp_model.specs.Project.{IsProject};
 ghost use Rattle.log_checker.specs.Checker.{StandsFor};
 ghost use Rattle.schedule_cli.specs.declared.stop.Stop.TheVariants.{ReadFault};
-ghost use Rattle.schedule_cli.specs.Judging.{HasAll, IsTaken, IsJudgementOf};
+ghost use Rattle.schedule_cli.specs.Feeding.{HasAll, IsTaken};
+ghost use Rattle.schedule_cli.specs.Judging.{IsJudgementOf};
 ghost use Rattle.schedule_cli.specs.Answer.{IsAnswerTo, IsTellable};
-ghost use Rattle.schedule_cli.specs.Words.{IsCheck, project_name, report_name};
+ghost use Rattle.plan_words.specs.Words.{IsCheck, project_name, report_name};
 
 use crate::answer::{Answer, Judgement, Outcome};
 use crate::reading::{piece_room, read_text};
@@ -33,7 +34,7 @@ fn feed_read<S: Shelf>(
     requires { 1 ≤ length piece.old }
     ensures project { checker.new.project ≡ checker.old.project }
     ensures bound { IfOk result (λ n. n ≤ length piece.old) }
-    ensures taken { IfOk result (IsTaken (S.texts shelf.old) (S.left shelf.old) (S.left shelf.new) checker.old checker.new) }
+    ensures taken { IfOk result (IsTaken (S.texts shelf.old) (StandsFor checker.old) (StandsFor checker.new) (S.left shelf.old) (S.left shelf.new)) }
     ensures fault { result ≡ Err ReadFault → Rose (S.faults shelf.old) (S.faults shelf.new) }
     ensures later { S.faults shelf.old ≤ S.faults shelf.new }
     ensures texts { S.texts shelf.new ≡ S.texts shelf.old }
@@ -52,7 +53,7 @@ fn feed_on<S: Shelf>(shelf: &mut S, piece: &mut [u8], checker: &mut Checker<'_>)
     requires project { IsProject checker.old.project }
     requires begun { StandsFor checker.old [] }
     ensures project { checker.new.project ≡ checker.old.project }
-    ensures all { OnOk result (HasAll (S.texts shelf.old) (S.left shelf.old) checker.new) }
+    ensures all { OnOk result (HasAll (S.texts shelf.old) (StandsFor checker.new) (S.left shelf.old)) }
     ensures fault { result ≡ Err ReadFault → Rose (S.faults shelf.old) (S.faults shelf.new) }
     ensures later { S.faults shelf.old ≤ S.faults shelf.new }
     ensures texts { S.texts shelf.new ≡ S.texts shelf.old }

@@ -1,17 +1,25 @@
 //! The program: it solves a project that is read from a file, and writes a report; it judges a report; it prints projects,
-//! those that are read and those that are made; and it solves a made project.
+//! those that are read and those that are made; it makes plans; it shows lower bounds, and judges them; and it solves a made
+//! project.
 #![tactic(auto)]
 
 mod answer;
 #[cfg(test)]
+mod bound_tests;
+mod bounding;
+#[cfg(test)]
 mod check_tests;
 mod file_shelf;
+#[cfg(test)]
+mod hostile_tests;
 mod judging;
 mod laws;
 #[cfg(test)]
 mod meeting_tests;
-mod number;
-mod options;
+#[cfg(test)]
+mod plan_tests;
+mod plan_text;
+mod planning;
 #[cfg(test)]
 mod print_tests;
 mod progress;
@@ -30,14 +38,14 @@ mod tell;
 mod tests;
 #[cfg(test)]
 mod trial_tests;
-mod words;
+mod verifying;
 
 use crate::file_shelf::FileShelf;
 use crate::progress::Progress;
 use crate::run::run;
 use crate::status::Status;
 use crate::std_sink::StdSink;
-use crate::words::{Command, parse_words};
+use plan_words::{Command, parse_words};
 use std::alloc::{AllocError, Global};
 use std::env::{Env, FillError};
 use std::io::IsTerminal;
@@ -47,21 +55,29 @@ use std::thread::Threads;
 use std::time::Clock;
 
 /// What the program says on standard error where its words are no command.
-const USAGE: &str = "usage: schedule_cli solve PROJECT [workers=W] [nodes=L] [log=yes|log=no]
+const USAGE: &str =
+    "usage: schedule_cli solve PROJECT [workers=W] [nodes=L] [log=yes|log=no] [tries=N]
        schedule_cli check PROJECT REPORT
        schedule_cli show PROJECT
+       schedule_cli plan PROJECT [tries=N]
+       schedule_cli bound PROJECT
+       schedule_cli verify PROJECT BOUND
        schedule_cli make SEED JOBS [modes=M]
        schedule_cli trial SEED JOBS [modes=M] [workers=W] [nodes=L]
 solve  searches for a shortest schedule of the project in a file, and writes a report
 check  judges a report on the project; docs/FORMATS.md has a table of the reasons for which one is refused
 show   writes the project in its canonical form
+plan   writes a plan of the project, which need not be a shortest one
+bound  writes a number of periods before which no schedule of the project ends, with the steps that show it
+verify judges such a text
 make   writes a project that is made from a seed: SEED 0 to 999999999, JOBS 3 to 128
 trial  makes such a project, searches it, and writes the verdict alone
 W      how many workers search, 1 to 32; 1 if left out
 L      how many nodes they may expand, 0 to 100000; 50000 if left out
+N      how many tries make the plan, or the plan that the search begins with, 0 to 1000000; 0 if left out
 log    whether the report has the log of the search; yes if left out
 M      how many modes a made job has, 1 to 4; 1 if left out
-status 0 optimal, accepted or written; 1 infeasible; 2 the node limit; 3 the report is refused;
+status 0 optimal, accepted or written; 1 infeasible; 2 the node limit, or no plan; 3 the report or the bound is refused;
        4 bad words; 5 bad project; 6 a read failed; 7 a write failed; 8 no memory";
 
 /// The most bytes of a word that are asked for at first.

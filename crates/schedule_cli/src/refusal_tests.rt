@@ -3,8 +3,6 @@
 use crate::status::Status;
 use crate::tests::check_text;
 use std::alloc::{AllocError, Global};
-use std::process::Abort;
-use std::thread::Threads;
 
 /// The canonical text of four jobs on one resource, without its last LF.
 const CANONICAL: &str = "************************************************************************
@@ -74,160 +72,151 @@ fn edited(alloc: Global, edit: &Edit<'_>) -> Result<String, AllocError> {
     Ok(text)
 }
 
-/// Solves the canonical text with an edit, which is refused.
-fn check_edited<R: Threads + Abort + Sync + AllocGlobal>(rt: &R, edit: &Edit<'_>, told: &str) {
-    let text = edited(rt.alloc(), edit).expect(rt, "memory");
-    check_text(rt, text.as_bytes(), (Status::BadProject, told));
-}
+/// Edits of the canonical text, each with what is told of it.
+const REFUSED: [(Edit, &str); 15] = [
+    // a header line that is missing
+    (
+        Edit {
+            before: 7,
+            new: "",
+            from: 8,
+        },
+        "bad project: code 2 line 7\n",
+    ),
+    // a word that is no number
+    (
+        Edit {
+            before: 20,
+            new: "2 1 x 4\n",
+            from: 21,
+        },
+        "bad project: code 3 line 20\n",
+    ),
+    // a duration that is too long
+    (
+        Edit {
+            before: 28,
+            new: "2 1 10001 2\n",
+            from: 29,
+        },
+        "bad project: code 4 line 28\n",
+    ),
+    // more jobs than there may be
+    (
+        Edit {
+            before: 6,
+            new: "jobs (incl. supersource/sink ):  129\n",
+            from: 7,
+        },
+        "bad project: code 4 line 6\n",
+    ),
+    // two projects
+    (
+        Edit {
+            before: 5,
+            new: "projects                      :  2\n",
+            from: 6,
+        },
+        "bad project: code 5 line 5\n",
+    ),
+    // a doubly constrained resource
+    (
+        Edit {
+            before: 11,
+            new: "  - doubly constrained        :  1   D\n",
+            from: 12,
+        },
+        "bad project: code 6 line 11\n",
+    ),
+    // another job than the next
+    (
+        Edit {
+            before: 21,
+            new: "4 1 1 4\n",
+            from: 22,
+        },
+        "bad project: code 7 line 21\n",
+    ),
+    // a word behind the successors
+    (
+        Edit {
+            before: 20,
+            new: "2 1 1 4 4\n",
+            from: 21,
+        },
+        "bad project: code 7 line 20\n",
+    ),
+    // another mode than the next
+    (
+        Edit {
+            before: 28,
+            new: "2 2 3 2\n",
+            from: 29,
+        },
+        "bad project: code 8 line 28\n",
+    ),
+    // a job without a mode
+    (
+        Edit {
+            before: 20,
+            new: "2 0 1 4\n",
+            from: 21,
+        },
+        "bad project: code 9 line 20\n",
+    ),
+    // a successor that is no job
+    (
+        Edit {
+            before: 20,
+            new: "2 1 1 5\n",
+            from: 21,
+        },
+        "bad project: code 10 line 20\n",
+    ),
+    // a cycle
+    (
+        Edit {
+            before: 20,
+            new: "2 1 2 3 4\n3 1 2 2 4\n",
+            from: 22,
+        },
+        "bad project: code 11 line 20\n",
+    ),
+    // a text that ends before its modes
+    (
+        Edit {
+            before: 25,
+            new: "",
+            from: 36,
+        },
+        "bad project: code 12 line 25\n",
+    ),
+    // a word behind the last job
+    (
+        Edit {
+            before: 22,
+            new: "4 1 0 9\n",
+            from: 23,
+        },
+        "bad project: code 13 line 22\n",
+    ),
+    // a line behind the last part
+    (
+        Edit {
+            before: 36,
+            new: "x\n",
+            from: 36,
+        },
+        "bad project: code 13 line 36\n",
+    ),
+];
 
 #[test]
-fn a_header_line_that_is_missing(rt: HostRuntime) {
-    let edit = Edit {
-        before: 7,
-        new: "",
-        from: 8,
-    };
-    check_edited(&rt, &edit, "bad project: code 2 line 7\n");
-}
-
-#[test]
-fn a_word_that_is_no_number(rt: HostRuntime) {
-    let edit = Edit {
-        before: 20,
-        new: "2 1 x 4\n",
-        from: 21,
-    };
-    check_edited(&rt, &edit, "bad project: code 3 line 20\n");
-}
-
-#[test]
-fn a_duration_that_is_too_long(rt: HostRuntime) {
-    let edit = Edit {
-        before: 28,
-        new: "2 1 10001 2\n",
-        from: 29,
-    };
-    check_edited(&rt, &edit, "bad project: code 4 line 28\n");
-}
-
-#[test]
-fn more_jobs_than_there_may_be(rt: HostRuntime) {
-    let edit = Edit {
-        before: 6,
-        new: "jobs (incl. supersource/sink ):  129\n",
-        from: 7,
-    };
-    check_edited(&rt, &edit, "bad project: code 4 line 6\n");
-}
-
-#[test]
-fn two_projects(rt: HostRuntime) {
-    let edit = Edit {
-        before: 5,
-        new: "projects                      :  2\n",
-        from: 6,
-    };
-    check_edited(&rt, &edit, "bad project: code 5 line 5\n");
-}
-
-#[test]
-fn a_doubly_constrained_resource(rt: HostRuntime) {
-    let edit = Edit {
-        before: 11,
-        new: "  - doubly constrained        :  1   D\n",
-        from: 12,
-    };
-    check_edited(&rt, &edit, "bad project: code 6 line 11\n");
-}
-
-#[test]
-fn another_job_than_the_next(rt: HostRuntime) {
-    let edit = Edit {
-        before: 21,
-        new: "4 1 1 4\n",
-        from: 22,
-    };
-    check_edited(&rt, &edit, "bad project: code 7 line 21\n");
-}
-
-#[test]
-fn a_word_behind_the_successors(rt: HostRuntime) {
-    let edit = Edit {
-        before: 20,
-        new: "2 1 1 4 4\n",
-        from: 21,
-    };
-    check_edited(&rt, &edit, "bad project: code 7 line 20\n");
-}
-
-#[test]
-fn another_mode_than_the_next(rt: HostRuntime) {
-    let edit = Edit {
-        before: 28,
-        new: "2 2 3 2\n",
-        from: 29,
-    };
-    check_edited(&rt, &edit, "bad project: code 8 line 28\n");
-}
-
-#[test]
-fn a_job_without_a_mode(rt: HostRuntime) {
-    let edit = Edit {
-        before: 20,
-        new: "2 0 1 4\n",
-        from: 21,
-    };
-    check_edited(&rt, &edit, "bad project: code 9 line 20\n");
-}
-
-#[test]
-fn a_successor_that_is_no_job(rt: HostRuntime) {
-    let edit = Edit {
-        before: 20,
-        new: "2 1 1 5\n",
-        from: 21,
-    };
-    check_edited(&rt, &edit, "bad project: code 10 line 20\n");
-}
-
-#[test]
-fn a_cycle(rt: HostRuntime) {
-    let edit = Edit {
-        before: 20,
-        new: "2 1 2 3 4\n3 1 2 2 4\n",
-        from: 22,
-    };
-    check_edited(&rt, &edit, "bad project: code 11 line 20\n");
-}
-
-#[test]
-fn a_text_that_ends_before_its_modes(rt: HostRuntime) {
-    let edit = Edit {
-        before: 25,
-        new: "",
-        from: 36,
-    };
-    check_edited(&rt, &edit, "bad project: code 12 line 25\n");
-}
-
-#[test]
-fn a_word_behind_the_last_job(rt: HostRuntime) {
-    let edit = Edit {
-        before: 22,
-        new: "4 1 0 9\n",
-        from: 23,
-    };
-    check_edited(&rt, &edit, "bad project: code 13 line 22\n");
-}
-
-#[test]
-fn a_line_behind_the_last_part(rt: HostRuntime) {
-    let edit = Edit {
-        before: 36,
-        new: "x\n",
-        from: 36,
-    };
-    check_edited(&rt, &edit, "bad project: code 13 line 36\n");
+fn each_edit_is_refused(rt: HostRuntime) {
+    for (edit, told) in &REFUSED {
+        let text = edited(rt.alloc(), edit).expect(&rt, "memory");
+        check_text(&rt, text.as_bytes(), (Status::BadProject, told));
+    }
 }
 
 #[test]

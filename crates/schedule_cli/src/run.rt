@@ -5,19 +5,22 @@ ghost use Rattle.schedule_cli.specs.declared.answer.Answer.TheVariants as answer
 ghost use Rattle.schedule_cli.specs.declared.stop.Stop.TheVariants as stops;
 ghost use Rattle.project_net.specs.Canonical.{canonical};
 ghost use Rattle.project_gen.specs.Made.{made};
-ghost use Rattle.schedule_cli.specs.Words.{bad_word, IsSolve, IsCheck, IsShow, IsMake, IsTrial, IsOnProject, IsPrint, workers_in, nodes_in, prints_log};
+ghost use Rattle.plan_words.specs.Words.{bad_word, IsSolve, IsCheck, IsShow, IsPlan, IsBound, IsVerify, IsMake, IsTrial, IsOnProject, IsPrint, workers_in, nodes_in, tries_in, prints_log};
 ghost use Rattle.schedule_cli.specs.Solve.{IsSolution, IsNoLaterThanFirst, ExpandsNoTwins, HasAtMostFronts};
 ghost use Rattle.schedule_cli.specs.Status.{IsSolved, IsServed, IsTold, IsFaultless};
-ghost use Rattle.schedule_cli.specs.Answer.{IsRequest, IsOutcomeOf, IsAnswerTo, IsTellable, HasProject, NamesNoProject, Runs, WhereSolved, TellsAccepted, Judges, Tries, text_of};
+ghost use Rattle.schedule_cli.specs.Answer.{IsRequest, IsOutcomeOf, IsAnswerTo, IsTellable, HasProject, NamesNoProject, Runs, WhereSolved, TellsAccepted, TellsPlan, TellsBound, Judges, Verifies, Tries, text_of};
 
 use crate::answer::{Answer, Outcome, Trial};
+use crate::bounding::bound_for;
 use crate::judging::checked;
+use crate::planning::planned;
 use crate::reading::read_text;
 use crate::solving::{Request, report_on, verdict_on};
 use crate::status::Status;
 use crate::stop::Stop;
 use crate::tell::{Untold, tell};
-use crate::words::{Command, parse_words};
+use crate::verifying::verified;
+use plan_words::{Command, parse_words};
 use project_gen::make;
 use project_net::print_project;
 use psplib_layout::ReadError;
@@ -61,6 +64,19 @@ fn show_of(alloc: Global, text: &[u8]) -> Result<Outcome, Stop>
     }
 }
 
+/// What a project text comes to where it is to be planned.
+fn plan_for(alloc: Global, text: &[u8], tries: u32) -> Result<Outcome, Stop>
+    ensures outcome { IfOk result (λ outcome. (words : List (List ℕ)) → IsPlan words → tries ≡ tries_in words → IsOutcomeOf words text.now outcome) }
+    ensures text { IfOk result (λ outcome. IsTellable (answers.Read outcome)) }
+    ensures memory { result ≡ Err stops.ReadFault → ⊥ }
+{
+    match read_project(alloc, text) {
+        Ok(project) => Ok(Outcome::Planned(planned(alloc, &project, tries)?)),
+        Err(ReadError::Refused(refusal)) => Ok(Outcome::BadProject(refusal)),
+        Err(ReadError::NoMemory) => Err(Stop::NoMemory),
+    }
+}
+
 /// The canonical text of a made project.
 fn made_text(alloc: Global, seed: u32, jobs: u8, modes: u8) -> Result<Vec<u8>, Stop>
     requires some { 3 ≤ jobs }
@@ -97,17 +113,28 @@ fn answer_to<R: Threads + Sync, S: Shelf, G: Gate + Sync>(
                 workers,
                 nodes,
                 log,
+                tries,
             },
         ) => {
             let text = read_text(alloc, shelf, project)?;
             let request = Request {
                 workers,
                 nodes,
+                tries,
                 log,
             };
             Ok(Answer::Read(solution_of(rt, alloc, gate, &text, request)?))
         }
         Ok(Command::Check { project, report }) => checked(alloc, shelf, project, report),
+        Ok(Command::Plan { project, tries }) => {
+            let text = read_text(alloc, shelf, project)?;
+            Ok(Answer::Read(plan_for(alloc, &text, tries)?))
+        }
+        Ok(Command::Bound { project }) => {
+            let text = read_text(alloc, shelf, project)?;
+            Ok(Answer::Read(bound_for(alloc, &text)?))
+        }
+        Ok(Command::Verify { project, bound }) => verified(alloc, shelf, project, bound),
         Ok(Command::Show { project }) => {
             let text = read_text(alloc, shelf, project)?;
             Ok(Answer::Read(show_of(alloc, &text)?))
@@ -138,10 +165,11 @@ fn answer_to<R: Threads + Sync, S: Shelf, G: Gate + Sync>(
 
 /// Runs the program on these words: reads the project from the shelf, and writes what there is to tell to the sink.
 ///
-/// The words are `solve PROJECT` and then any of `workers=W`, `nodes=L`, `log=yes` or `log=no`; `check PROJECT REPORT`;
-/// `show PROJECT`; `make SEED JOBS` and then `modes=M` or nothing; or `trial SEED JOBS` and then any of `modes=M`, `workers=W`,
-/// `nodes=L`. All memory is taken before the first byte is written. Each worker of a search
-/// passes the gate at the start of its part in a round, and after each node that it expanded.
+/// The words are `solve PROJECT` and then any of `workers=W`, `nodes=L`, `log=yes` or `log=no`, `tries=N`; `check PROJECT REPORT`;
+/// `show PROJECT`; `plan PROJECT` and then `tries=N` or nothing; `bound PROJECT`; `verify PROJECT BOUND`; `make SEED JOBS` and
+/// then `modes=M` or nothing; or `trial SEED JOBS` and then any of `modes=M`, `workers=W`, `nodes=L`. All memory is taken before
+/// the first byte is written. Each worker of a search passes the gate at the start of its part in a round, and after each node
+/// that it expanded.
 pub fn run<R: Threads + Sync, S: Shelf, K: Sink, G: Gate + Sync>(
     rt: &R,
     alloc: Global,
@@ -157,7 +185,7 @@ pub fn run<R: Threads + Sync, S: Shelf, K: Sink, G: Gate + Sync>(
     // schedules is true; its text is accepted; at the limit as many nodes were expanded as the words allow, and one was left;
     // and no expansion was wasted.
     ensures report { WhereSolved (map string_bytes words.now) (S.texts shelf.old) result (K.held out.old) (K.held out.new)
-        (λ P report. IsSolution P (workers_in (map string_bytes words.now)) (nodes_in (map string_bytes words.now)) report) }
+        (λ P report. IsSolution P (workers_in (map string_bytes words.now)) (nodes_in (map string_bytes words.now)) (tries_in (map string_bytes words.now)) report) }
 
     // With its log, what is written is accepted.
     ensures accepted { IsSolve (map string_bytes words.now) → IsSolved result → prints_log (map string_bytes words.now) ≡ true
@@ -175,11 +203,24 @@ pub fn run<R: Threads + Sync, S: Shelf, K: Sink, G: Gate + Sync>(
     ensures ends { WhereSolved (map string_bytes words.now) (S.texts shelf.old) result (K.held out.old) (K.held out.new)
         (λ P report. HasAtMostFronts P (nodes_in (map string_bytes words.now)) → result ≡ Status.Limit → ⊥) }
 
+    // `plan` tells the plan from as many tries as the words say, which is feasible and ends no later than the first plan; or that
+    // there is none. With no tries it is exactly the first plan, justified.
+    ensures planned { IsPlan (map string_bytes words.now) → IsSolved result → TellsPlan (map string_bytes words.now) (S.texts shelf.old) result (K.held out.old) (K.held out.new) }
+
     // `check` judges the text under the report's name, whatever its origin, as a report on the project under the other: 0 exactly
     // where it is accepted, with its verdict, and then what it claims, with the schedule in it, is true; and 3 exactly where it
     // isn't, with the first line that breaks a rule and the reason.
     ensures judged { IsCheck (map string_bytes words.now) → IsServed result → Judges (map string_bytes words.now) (S.texts shelf.old) result (K.held out.old) (K.held out.new) }
-    ensures refused { result ≡ Status.ReportRefused → IsCheck (map string_bytes words.now) }
+    ensures refused { result ≡ Status.ReportRefused → IsCheck (map string_bytes words.now) ⊎ IsVerify (map string_bytes words.now) }
+
+    // `bound` tells the text of the project's window bound: its steps refute the period before it, or it is 0 and has none, so
+    // that the text is accepted, and no feasible schedule ends before it.
+    ensures bounded { IsBound (map string_bytes words.now) → IsServed result → TellsBound (map string_bytes words.now) (S.texts shelf.old) result (K.held out.old) (K.held out.new) }
+
+    // `verify` judges the text under the bound's name, whatever its origin, as that of a bound of the project: 0 exactly where it
+    // is accepted, with its bound, and then no feasible schedule ends before it; and 3 exactly where it isn't, with the first line
+    // that may not stand there.
+    ensures verified { IsVerify (map string_bytes words.now) → IsServed result → Verifies (map string_bytes words.now) (S.texts shelf.old) result (K.held out.old) (K.held out.new) }
 
     // `trial` tells the verdict of such a report on the made project, with its duration and its lower bound.
     ensures tried { IsTrial (map string_bytes words.now) → IsSolved result → Tries (map string_bytes words.now) result (K.held out.old) (K.held out.new) }
@@ -209,8 +250,8 @@ pub fn run<R: Threads + Sync, S: Shelf, K: Sink, G: Gate + Sync>(
     ensures served { IsTold result → IfSome (S.texts shelf.old) (λ texts. IsServed result ↔ HasProject (map string_bytes words.now) texts) }
     ensures printed { IsServed result → IsPrint (map string_bytes words.now) → result ≡ Status.Done }
 
-    // Where no fault was counted in the call and memory wasn't refused, an answer is told, and a project is solved, a report on
-    // it judged, or its text printed; `make` and `trial` need no shelf for it.
+    // Where no fault was counted in the call and memory wasn't refused, an answer is told, and a project is solved, planned or
+    // bounded, a report on it or a bound of it judged, or its text printed; `make` and `trial` need no shelf for it.
     ensures answers { IsFaultless (S.faults shelf.old) (S.faults shelf.new) → IsFaultless (K.faults out.old) (K.faults out.new) → (result ≡ Status.NoMemory → ⊥) → IsTold result }
     ensures complete { IfSome (S.texts shelf.old) (λ texts. HasProject (map string_bytes words.now) texts
         → IsFaultless (S.faults shelf.old) (S.faults shelf.new) → IsFaultless (K.faults out.old) (K.faults out.new) → (result ≡ Status.NoMemory → ⊥) → IsServed result) }

@@ -2,9 +2,10 @@
 
 ghost use Rattle.std.specs.Prelude.{◌≡◌, ◌≤◌, IfOk};
 ghost use Rattle.proof_log.specs.Report.{IsReport};
-ghost use Rattle.search_rounds.specs.Found.{report_of, IsFoundFromFirst};
-ghost use Rattle.schedule_cli.specs.Solve.{with_log, IsSearched, IsSearchedTo};
+ghost use Rattle.search_rounds.specs.Found.{report_of};
+ghost use Rattle.schedule_cli.specs.Solve.{with_log, IsFoundFromStart, IsSearched, IsSearchedTo};
 
+use crate::planning::start_of;
 use log_truth::true_claim;
 use project_net::Project;
 use proof_log::{Report, Verdict};
@@ -12,7 +13,7 @@ use sched_base::{Gate, NoMemory};
 use search_rounds::{Found, told_report};
 use std::alloc::Global;
 use std::thread::Threads;
-use steal_rounds::search;
+use steal_rounds::search_from;
 
 /// How a search is to run, and what is to be told of it.
 #[derive(Clone, Copy, Debug, PartialEq, Eq)]
@@ -21,6 +22,8 @@ pub struct Request {
     pub workers: u32,
     /// How many nodes they may expand, at most 100,000.
     pub nodes: u32,
+    /// How many tries make the plan that the search begins with; none where it begins with the first plan.
+    pub tries: u32,
     /// Whether the log is told.
     pub log: bool,
 }
@@ -36,9 +39,19 @@ fn found_by<R: Threads + Sync, G: Gate + Sync>(
     requires some { 1 ≤ request.workers }
     requires few { request.workers ≤ 32 }
     requires nodes { request.nodes ≤ 100000 }
-    ensures { IfOk result (IsFoundFromFirst project.now request.workers request.nodes) }
+    ensures { IfOk result (IsFoundFromStart project.now request.workers request.nodes request.tries) }
 {
-    search(rt, alloc, project, request.workers, request.nodes, gate)
+    let plan = start_of(alloc, project, request.tries)?;
+    let found = search_from(
+        rt,
+        alloc,
+        project,
+        request.workers,
+        request.nodes,
+        plan,
+        gate,
+    )?;
+    Ok(found)
 }
 
 /// The report of what was found, with its log or without.
@@ -67,7 +80,7 @@ pub fn report_on<R: Threads + Sync, G: Gate + Sync>(
     requires some { 1 ≤ request.workers }
     requires few { request.workers ≤ 32 }
     requires nodes { request.nodes ≤ 100000 }
-    ensures report { IfOk result (IsSearched project.now request.workers request.nodes request.log) }
+    ensures report { IfOk result (IsSearched project.now request.workers request.nodes request.tries request.log) }
     ensures text { IfOk result IsReport }
 {
     project.known();
@@ -77,7 +90,7 @@ pub fn report_on<R: Threads + Sync, G: Gate + Sync>(
     Ok(told(found, request.log))
 }
 
-/// The verdict of the report on a project.
+/// The verdict of the report on a project, by a search that begins with the first plan.
 pub fn verdict_on<R: Threads + Sync, G: Gate + Sync>(
     rt: &R,
     alloc: Global,
@@ -94,6 +107,7 @@ pub fn verdict_on<R: Threads + Sync, G: Gate + Sync>(
     let request = Request {
         workers,
         nodes,
+        tries: 0,
         log: false,
     };
     let report = report_on(rt, alloc, gate, project, request)?;

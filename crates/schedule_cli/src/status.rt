@@ -6,13 +6,13 @@ use sched_base::Failed;
 /// How a run ended.
 #[derive(Clone, Copy, Debug, PartialEq, Eq)]
 pub enum Status {
-    /// The plan is optimal, the report accepted, or the text written.
+    /// The plan is optimal, the report or the bound accepted, or the text written.
     Done,
     /// No plan is feasible.
     Infeasible,
     /// The search ended at its limit.
     Limit,
-    /// The report isn't accepted.
+    /// The report or the bound isn't accepted.
     ReportRefused,
     /// The words are no command.
     BadWords,

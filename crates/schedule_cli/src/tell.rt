@@ -1,10 +1,11 @@
 ghost use Rattle.std.specs.Prelude.{◌≡◌, ◌≤◌, ◌++◌, [], codes, decimal, string_bytes, IfOk, OnOk, Err};
 ghost use Rattle.sched_base.specs.Outside.{Gains, GainsFront, Rose};
-ghost use Rattle.schedule_cli.specs.Answer.{code_of, line, verdict_words, text_of_judgement, size_lines, verdict_lines, text_of_trial, text_of, IsTellable};
+ghost use Rattle.schedule_cli.specs.Answer.{code_of, line, verdict_words, text_of_judgement, text_of_bound_judgement, size_lines, verdict_lines, text_of_trial, text_of, IsTellable};
 ghost use Rattle.schedule_cli.specs.declared.tell.Untold.TheVariants.{NoMemory, WriteFault};
 
-use crate::answer::{Answer, Judgement, Outcome, Trial};
-use crate::words::BadWords;
+use crate::answer::{Answer, BoundJudgement, Judgement, Outcome, Trial};
+use crate::plan_text::plan_text;
+use plan_words::BadWords;
 use proof_log::write_report;
 use psplib_layout::{Fault, Refusal};
 use rcpsp_model::Verdict;
@@ -92,6 +93,19 @@ fn judgement_line(alloc: Global, judgement: Judgement) -> Result<String, AllocEr
     }
 }
 
+/// The line that tells what the text of a bound comes to.
+fn bound_judgement_line(alloc: Global, judgement: BoundJudgement) -> Result<String, AllocError>
+    ensures { IfOk result (λ s. string_bytes s ≡ text_of_bound_judgement judgement) }
+{
+    match judgement {
+        Ok(bound) => format!(in alloc; "accepted bound {bound}\n"),
+        Err(refused) => {
+            let line = refused.line;
+            format!(in alloc; "bound refused: line {line}\n")
+        }
+    }
+}
+
 /// The lines that tell what a made project is.
 fn size_lines(alloc: Global, trial: Trial) -> Result<String, AllocError>
     ensures { IfOk result (λ s. string_bytes s ≡ size_lines trial.jobs trial.modes) }
@@ -142,13 +156,22 @@ pub fn tell<K: Sink>(alloc: Global, out: &mut K, answer: &Answer) -> Result<(), 
 {
     match answer {
         Answer::Read(Outcome::Solved(report)) => write_report(out, report)?,
+        Answer::Read(Outcome::Planned(plan)) => {
+            let lines = plan_text(alloc, plan)?;
+            write_whole(out, lines.as_bytes())?;
+        }
         Answer::Read(Outcome::Shown(text)) | Answer::Made(text) => write_whole(out, text)?,
+        Answer::Read(Outcome::Bounded(text)) => write_whole(out, text)?,
         Answer::Read(Outcome::BadProject(refusal)) => {
             let line = bad_project_line(alloc, code(refusal.fault), refusal.line)?;
             write_whole(out, line.as_bytes())?;
         }
         Answer::Judged(judgement) => {
             let line = judgement_line(alloc, *judgement)?;
+            write_whole(out, line.as_bytes())?;
+        }
+        Answer::Verified(judgement) => {
+            let line = bound_judgement_line(alloc, *judgement)?;
             write_whole(out, line.as_bytes())?;
         }
         Answer::Tried(trial) => {

@@ -1,13 +1,14 @@
 use Rattle.std.proofs.Common.{◌≡◌, ◌≤◌, ◌-◌, length}
 use Rattle.schedule_cli.specs.declared.judging.TheConstants.{MOST_REPORT}
-use Rattle.schedule_cli.specs.Judging.{HasTaken}
+use Rattle.log_checker.specs.Checker.{StandsFor}
+use Rattle.schedule_cli.specs.Feeding.{HasTaken}
 use Rattle.schedule_cli.proofs.judging.feed_on.Given as goal
 
 abbrev pub invariant-loop-taken : goal.invariant-loop-taken
 invariant-loop-taken g l = record {
   piece : length l.piece ≡ length l.fn.piece;
   project : l.checker.project ≡ l.fn.checker.project;
-  has : HasTaken (g.S.Shelf.texts l.fn.shelf) (g.S.Shelf.left l.fn.shelf) (g.S.Shelf.left l.shelf) l.checker l.taken;
+  has : HasTaken (g.S.Shelf.texts l.fn.shelf) (StandsFor l.checker) (g.S.Shelf.left l.fn.shelf) (g.S.Shelf.left l.shelf) l.taken;
   later : g.S.Shelf.faults l.fn.shelf ≤ g.S.Shelf.faults l.shelf;
   same : g.S.Shelf.texts l.shelf ≡ g.S.Shelf.texts l.fn.shelf;
 }

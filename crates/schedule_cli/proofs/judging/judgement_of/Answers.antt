@@ -1,6 +1,7 @@
 use Rattle.std.proofs.Common.{ap, subst, ◌∙◌, Err}
 use Rattle.schedule_cli.specs.declared.answer.Judgement.TheVariants as judgements
-use Rattle.schedule_cli.specs.Judging.{HasAll}
+use Rattle.log_checker.specs.Checker.{StandsFor}
+use Rattle.schedule_cli.specs.Feeding.{HasAll}
 use Rattle.schedule_cli.proofs.FedReports.{judged_all}
 use Rattle.schedule_cli.proofs.judging.judgement_of.Goals as goal
 
@@ -8,5 +9,5 @@ pub returns-in-Err-Report-clause-judged : goal.returns-in-Err-Report-clause-judg
 returns-in-Err-Report-clause-judged g c =
     judged_all c.args.project.now (g.S.Shelf.texts c.args.shelf.now) c.args.name.now (g.S.Shelf.left c.begin.new.self) c.feed_on.new.checker c.finish.result (judgements.Refused c.in-Err-Report.line c.in-Err-Report.reason)
     (c.feed_on.ensures.project ∙ c.new-checker.ensures.project)
-    (subst (λ texts. HasAll texts (g.S.Shelf.left c.begin.new.self) c.feed_on.new.checker) c.begin.ensures.texts c.in_ok-feed_on.ensures.all)
+    (subst (λ texts. HasAll texts (StandsFor c.feed_on.new.checker) (g.S.Shelf.left c.begin.new.self)) c.begin.ensures.texts c.in_ok-feed_on.ensures.all)
     c.in_ok-begin.ensures.begun c.finish.ensures.judged (c.in-Err-Report.is ∙ ap Err c.in-Err-Report.field-0-is)

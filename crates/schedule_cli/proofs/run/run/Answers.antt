@@ -3,7 +3,9 @@ use Rattle.schedule_cli.specs.declared.status.Status.TheVariants.{NoMemory}
 use Rattle.schedule_cli.specs.Status.{IsFaultless}
 use Rattle.schedule_cli.proofs.StatusesTold.{told_bad_project, told_served, told_printed, told_refused, told_tried, told_complete, made_is_done}
 use Rattle.schedule_cli.proofs.ReportsTold.{tells_solution, tells_accepted, tells_no_later, tells_no_twins, tells_ends}
+use Rattle.schedule_cli.proofs.PlansTold.{tells_plan}
 use Rattle.schedule_cli.proofs.ReportsJudged.{judges}
+use Rattle.schedule_cli.proofs.BoundsTold.{tells_bound, verifies}
 use Rattle.schedule_cli.proofs.TrialsTold.{tries}
 use Rattle.schedule_cli.proofs.run.run.Goals as goal
 
@@ -52,6 +54,11 @@ returns-in-Ok-tell-clause-ends g c =
     tells_ends (map string_bytes c.args.words.now) (g.S.Shelf.texts c.args.shelf.now) c.in-Ok.answer c.status-status.result (g.K.Sink.held c.args.out.now) (g.K.Sink.held c.tell.new.out) c.in-Ok.ensures.answer
     c.status-status.ensures c.in-Ok-tell.ensures.whole
 
+pub returns-in-Ok-tell-clause-planned : goal.returns-in-Ok-tell-clause-planned
+returns-in-Ok-tell-clause-planned g c =
+    tells_plan (map string_bytes c.args.words.now) (g.S.Shelf.texts c.args.shelf.now) c.in-Ok.answer c.status-status.result (g.K.Sink.held c.args.out.now) (g.K.Sink.held c.tell.new.out) c.in-Ok.ensures.answer
+    c.status-status.ensures c.in-Ok-tell.ensures.whole
+
 pub returns-in-Ok-tell-clause-judged : goal.returns-in-Ok-tell-clause-judged
 returns-in-Ok-tell-clause-judged g c =
     judges (map string_bytes c.args.words.now) (g.S.Shelf.texts c.args.shelf.now) c.in-Ok.answer c.status-status.result (g.K.Sink.held c.args.out.now) (g.K.Sink.held c.tell.new.out) c.in-Ok.ensures.answer
@@ -59,6 +66,16 @@ returns-in-Ok-tell-clause-judged g c =
 
 pub returns-in-Ok-tell-clause-refused : goal.returns-in-Ok-tell-clause-refused
 returns-in-Ok-tell-clause-refused g c = told_refused (map string_bytes c.args.words.now) (g.S.Shelf.texts c.args.shelf.now) c.in-Ok.answer c.status-status.result c.in-Ok.ensures.answer c.status-status.ensures
+
+pub returns-in-Ok-tell-clause-bounded : goal.returns-in-Ok-tell-clause-bounded
+returns-in-Ok-tell-clause-bounded g c =
+    tells_bound (map string_bytes c.args.words.now) (g.S.Shelf.texts c.args.shelf.now) c.in-Ok.answer c.status-status.result (g.K.Sink.held c.args.out.now) (g.K.Sink.held c.tell.new.out) c.in-Ok.ensures.answer
+    c.status-status.ensures c.in-Ok-tell.ensures.whole
+
+pub returns-in-Ok-tell-clause-verified : goal.returns-in-Ok-tell-clause-verified
+returns-in-Ok-tell-clause-verified g c =
+    verifies (map string_bytes c.args.words.now) (g.S.Shelf.texts c.args.shelf.now) c.in-Ok.answer c.status-status.result (g.K.Sink.held c.args.out.now) (g.K.Sink.held c.tell.new.out) c.in-Ok.ensures.answer
+    c.status-status.ensures c.in-Ok-tell.ensures.whole
 
 pub returns-in-Ok-tell-clause-tried : goal.returns-in-Ok-tell-clause-tried
 returns-in-Ok-tell-clause-tried g c =
