@@ -8,8 +8,6 @@ mod feeding;
 mod judging;
 mod laws;
 mod stage;
-#[cfg(test)]
-mod tests;
 mod writing;
 
 pub use checker::{BoundChecker, BoundRefusal, MOST_TEXT};

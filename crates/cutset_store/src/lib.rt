@@ -11,8 +11,6 @@ mod line;
 mod record;
 mod row;
 mod table;
-#[cfg(test)]
-mod tests;
 mod usage;
 
 pub use dominance::dominates;

@@ -12,8 +12,6 @@ mod passes;
 mod places;
 mod room;
 mod search;
-#[cfg(test)]
-mod tests;
 
 pub use justified::{backward, forward, justify};
 pub use laws::{fits_beside, one_improved, one_pass};

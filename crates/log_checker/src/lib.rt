@@ -24,7 +24,3 @@ pub use reason::Reason;
 pub use refused::Refused;
 pub use stage::{Kind, Stage};
 
-#[cfg(test)]
-mod expanded_tests;
-#[cfg(test)]
-mod tests;

@@ -11,8 +11,6 @@ mod modes;
 mod places;
 mod room;
 mod scheme;
-#[cfg(test)]
-mod tests;
 mod tries;
 
 pub use improving::improve;

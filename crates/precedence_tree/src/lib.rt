@@ -15,8 +15,6 @@ mod leaf;
 mod needs;
 mod node;
 mod starts;
-#[cfg(test)]
-mod tests;
 mod works;
 
 pub use active::Active;

@@ -5,8 +5,6 @@ mod adding;
 mod profile;
 mod shortage;
 mod steps;
-#[cfg(test)]
-mod tests;
 
 pub use profile::Profile;
 pub use rcpsp_model::Entry;

@@ -1,5 +1,5 @@
 -- The log that is told of a table in which nothing waits.
-use Rattle.std.proofs.Common.{◌≡◌, ℕ, zero, suc, ◌+◌, ◌<◌, ◌≤◌, inl, inr, refl, sym, ap, subst, ◌∙◌, arith, List, [], ◌∷◌, ◌++◌, length, map, Bool, cond, Option, Some, None}
+use Rattle.std.proofs.Common.{◌≡◌, ℕ, suc, ◌+◌, ◌<◌, inl, inr, refl, sym, ap, subst, ◌∙◌, arith, List, [], ◌∷◌, ◌++◌, length, map, Bool, cond, Option, Some, None}
 use Rattle.std.specs.Prelude.{IfSome, All}
 use Rattle.std.specs.Option.{option_map}
 use Rattle.std.proofs.lemmas.Bool.{cases_lt}
@@ -7,7 +7,7 @@ use Rattle.std.proofs.lemmas.List.{map-append, get_or_past}
 use Rattle.std.proofs.lemmas.Option.{slice_get-map}
 use Rattle.rcpsp_model.specs.declared.parts.Entry.{Entry}
 use Rattle.rcpsp_model.specs.declared.parts.Verdict.{Verdict}
-use Rattle.rcpsp_model.specs.Project.{Project, numbers_from}
+use Rattle.rcpsp_model.specs.Project.{Project}
 use Rattle.rcpsp_model.proofs.Lists.{In, All-from_In, Contains-from_In}
 use Rattle.proof_log.specs.declared.report.LogLine.{LogLine}
 use Rattle.log_truth.specs.Fates.{expands}

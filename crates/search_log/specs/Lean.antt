@@ -54,7 +54,7 @@ abbrev pub end_number : Option ℕ → ℕ
 end_number (Some d) = d
 end_number None = none_yet
 
--- e is the end of the first plan, or that of one of these leaves
+-- e is the end of the plan to begin with, or that of one of these leaves
 pub data IsEnd (P : Project) (first : Option ℕ) (Among : Seen → Type 0) (e : ℕ) : Type 0 where
   of_first : e ≡ end_number first → IsEnd P first Among e
   of_leaf : (s : Seen) (F : List Entry) → Among s → s.said ≡ says_late late_leaf → s.front ≡ Some F → e ≡ end_of P F → IsEnd P first Among e
@@ -94,7 +94,7 @@ pub record IsAfterParent (parent child : Seen) : Type 0 where
   pub round : parent.origin.round ≤ child.origin.round
   pub turn : shuts child.said ≡ false → parent.origin.round ≡ child.origin.round → parent.origin.worker ≡ child.origin.worker → parent.origin.turn < child.origin.turn
 
--- The lines of a search with so many workers, which began with the end of the first plan, if there is one; the best at the
+-- The lines of a search with so many workers, which began with the end of a plan, if there was one; the best at the
 -- start of each round; and the duration of the best schedule, if there is one
 pub record IsLean (P : Project) (workers : ℕ) (first : Option ℕ) (starts : List ℕ) (duration : Option ℕ) (all : List Seen) : Type 0 where
   pub begun : (s : Seen) → Contains all s → expands_line s ≡ true → IsBegun P workers starts s

@@ -15,5 +15,3 @@ pub use going::Search;
 pub use law::told_report;
 pub use round::{NewRow, PlacedRecord, Records, RoundResult, Terms, WaitingNode};
 
-#[cfg(test)]
-mod tests;

@@ -7,7 +7,5 @@ mod mode_rule;
 mod plan;
 mod priority;
 mod scheme;
-#[cfg(test)]
-mod tests;
 
 pub use plan::first_plan;

@@ -12,8 +12,6 @@ mod part;
 mod preorder;
 mod searching;
 mod source;
-#[cfg(test)]
-mod tests;
 mod work;
 
 pub use crew::round;

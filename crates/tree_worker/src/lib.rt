@@ -11,8 +11,6 @@ mod leaf;
 mod live;
 mod live_index;
 mod publishing;
-#[cfg(test)]
-mod tests;
 mod worker;
 
 pub use answer::{Cite, Close, Visited};

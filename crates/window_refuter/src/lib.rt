@@ -20,8 +20,6 @@ mod refutation;
 mod refuting;
 mod step;
 mod supply;
-#[cfg(test)]
-mod tests;
 mod window;
 mod windows;
 mod works;

@@ -1,7 +1,7 @@
 ghost use Rattle.std.specs.Prelude.{◌≤◌, ◌↔◌, IsTrue, IfOk, IfSome, All};
 ghost use Rattle.rcpsp_model.specs.Schedule.{IsFeasible, end_of, entries};
 
-use crate::improve;
+use plan_search::improve;
 use project_net::{Project, Schedule};
 use rcpsp_model::Placing;
 use sched_base::{List, NoMemory};

@@ -2,7 +2,7 @@ ghost use Rattle.std.specs.Prelude.{◌≤◌, All};
 ghost use Rattle.std.specs.Bool.{OnTrue};
 ghost use Rattle.profiles.specs.Placed.{IsProfileOf};
 
-use crate::{Entry, Profile};
+use profiles::{Entry, Profile};
 use project_net::{Draft, DraftJob, Project};
 use rcpsp_model::Mode;
 use sched_base::List;

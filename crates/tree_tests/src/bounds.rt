@@ -1,6 +1,6 @@
 ghost use Rattle.precedence_tree.specs.Node.{StandsFor};
 
-use crate::{budget_gap, lower, tail_bound, work_bound};
+use plan_bounds::{budget_gap, lower, tail_bound, work_bound};
 use precedence_tree::{Node, node_of};
 use project_net::Project;
 use std::alloc::Global;

@@ -1,7 +1,7 @@
 ghost use Rattle.std.specs.Prelude.{◌≤◌, ◌↔◌, IsTrue, IfOk, All};
 ghost use Rattle.rcpsp_model.specs.Schedule.{IsFeasible, end_of, entries};
 
-use crate::{backward, forward, justify};
+use justify_plans::{backward, forward, justify};
 use project_net::{CalRow, Project, Schedule};
 use rcpsp_model::Placing;
 use sched_base::{List, NoMemory};

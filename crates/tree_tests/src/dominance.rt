@@ -2,7 +2,7 @@ ghost use Rattle.std.specs.Prelude.{All, IfOk};
 ghost use Rattle.precedence_tree.specs.Base.{IsBaseOf};
 ghost use Rattle.precedence_tree.specs.Node.{StandsFor};
 
-use crate::{CutRecord, Index, dominates};
+use cutset_store::{CutRecord, Index, dominates};
 use precedence_tree::{Node, node_of};
 use project_net::Project;
 use sched_base::NoMemory;

@@ -1,6 +1,6 @@
 //! Reports on small projects: those that hold, by hand, and what edits of them break first.
 
-use crate::{Checker, Refused};
+use log_checker::{Checker, Refused};
 use project_net::Project;
 use rcpsp_model::Verdict;
 use std::alloc::{AllocError, Global};

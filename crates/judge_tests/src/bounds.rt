@@ -1,6 +1,6 @@
 ghost use Rattle.std.specs.Prelude.{◌≤◌};
 
-use crate::{BoundChecker, BoundRefusal, bound_text};
+use bound_checker::{BoundChecker, BoundRefusal, bound_text};
 use project_net::{BuildRefusal, Project};
 use sched_base::{List, NoMemory};
 use std::alloc::Global;

@@ -1,6 +1,6 @@
 ghost use Rattle.std.specs.Prelude.{◌≤◌};
 
-use crate::{
+use window_refuter::{
     BoundLine, BoundStep, Judged, Window, Windows, bound_line, narrowing_steps, parse_bound_line,
     refute, refutes, window_bound,
 };

@@ -9,7 +9,7 @@ ghost use Rattle.search_table.specs.Lists.{Lacks};
 ghost use Rattle.search_table.specs.Views.{with_worker};
 ghost use Rattle.tree_worker.specs.Worker.{IsAtWork};
 
-use crate::{Cite, Close, TreeWorker, Visited, WorkerParts};
+use tree_worker::{Cite, Close, TreeWorker, Visited, WorkerParts};
 use cutset_store::{CutRecord, Index, SetPlace};
 use once_cell::race::OnceBox;
 use precedence_tree::{Child, Children, Node, node_of};

@@ -1,4 +1,4 @@
-use crate::first_plan;
+use serial_scheme::first_plan;
 use project_net::Schedule;
 use std::test::Fail;
 use worked_projects::{

@@ -1,7 +1,7 @@
 ghost use Rattle.std.specs.Prelude.{◌≤◌, IfSome};
 ghost use Rattle.rcpsp_model.specs.Schedule.{end_of, entries, IsFeasible};
 
-use super::*;
+use search_rounds::*;
 use plan_bounds::budget_gap;
 use precedence_tree::Node;
 use project_net::{Project, Schedule};

@@ -1,6 +1,6 @@
 //! A log with as many expanded lines as there may be, and with one more.
 
-use crate::{Checker, Refused};
+use log_checker::{Checker, Refused};
 use std::alloc::{AllocError, Global};
 use std::process::Abort;
 use std::test::Fail;

@@ -1,4 +1,4 @@
-use super::*;
+use steal_rounds::*;
 use proof_log::{LogLine, Verdict};
 use sched_base::{Fate, OpenGate};
 use search_rounds::Found;

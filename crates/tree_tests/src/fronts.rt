@@ -1,7 +1,7 @@
 ghost use Rattle.std.specs.Prelude.{IfOk};
 ghost use Rattle.precedence_tree.specs.Node.{StandsFor};
 
-use crate::{
+use precedence_tree::{
     Child, Children, Entry, Node, Shut, child, children, children_of, eligible, expand, follow,
     is_leaf, node_of, schedule,
 };
