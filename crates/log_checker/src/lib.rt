@@ -23,4 +23,3 @@ pub use laws::{accepted_text, exact_refusal, one_outcome, stays_refused, true_ve
 pub use reason::Reason;
 pub use refused::Refused;
 pub use stage::{Kind, Stage};
-

@@ -14,4 +14,3 @@ pub use found::{Found, found_gap};
 pub use going::Search;
 pub use law::told_report;
 pub use round::{NewRow, PlacedRecord, Records, RoundResult, Terms, WaitingNode};
-

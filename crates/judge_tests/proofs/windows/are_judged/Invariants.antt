@@ -1,6 +1,6 @@
 use Rattle.std.proofs.Common.{◌≡◌, length}
 use Rattle.rcpsp_model.specs.Project.{job_count}
-use Rattle.window_refuter.proofs.tests.are_judged.Given as goal
+use Rattle.judge_tests.proofs.windows.are_judged.Given as goal
 
 abbrev pub invariant-loop-step : goal.invariant-loop-step
 invariant-loop-step l = length l.windows.windows ≡ job_count l.project

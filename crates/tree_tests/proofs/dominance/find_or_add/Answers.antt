@@ -3,7 +3,7 @@ use Rattle.std.specs.Prelude.{All, Result, Ok, Err, OnOk, OnErr}
 use Rattle.std.proofs.lemmas.List.Elements.{All-push}
 use Rattle.precedence_tree.specs.declared.base.Base.{Base}
 use Rattle.precedence_tree.specs.Base.{IsBaseOf}
-use Rattle.cutset_store.proofs.tests.find_or_add.Goals as goal
+use Rattle.tree_tests.proofs.dominance.find_or_add.Goals as goal
 
 -- each keeps a fact, where one that has it was appended or handed back
 all-kept : (Q : Base → Type 0) (r : Result ℕ Base) (old new : List Base) (b : Base) → OnOk r (new ≡ old ++ b ∷ []) → OnErr r (new ≡ old) → All Q old → Q b → All Q new

@@ -2,7 +2,7 @@ use Rattle.std.proofs.Common.{◌≡◌}
 use Rattle.std.specs.Prelude.{All}
 use Rattle.precedence_tree.specs.Node.{StandsFor}
 use Rattle.tree_worker.specs.Worker.{IsAtWork}
-use Rattle.tree_worker.proofs.tests.visit_all.Given as goal
+use Rattle.worker_tests.proofs.visits.visit_all.Given as goal
 
 abbrev pub invariant-loop-visit : goal.invariant-loop-visit
 invariant-loop-visit g l = record {
