@@ -1,10 +1,9 @@
 //! Bounds that the program writes and judges, and those with an edit.
 
 use crate::check_tests::{shelf_with, text_of};
-use crate::run::run;
-use crate::status::Status;
 use crate::tests::{check, words_of};
 use sched_base::{MemSink, OpenGate};
+use scheduler::{Status, run};
 use std::process::Abort;
 use std::thread::Threads;
 use worked_projects::{

@@ -1,10 +1,9 @@
 //! Reports that are judged: those that the program prints, and those with an edit.
 
-use crate::run::run;
-use crate::status::Status;
 use crate::tests::{check, words_of};
 use project_net::print_project;
 use sched_base::{MemShelf, MemSink, OpenGate};
+use scheduler::{Status, run};
 use std::alloc::{AllocError, Global};
 use std::process::Abort;
 use std::thread::Threads;

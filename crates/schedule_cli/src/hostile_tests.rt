@@ -1,11 +1,10 @@
 //! Texts that are cut off, and calls of the outside that fail.
 
 use crate::check_tests::{begin_of, report_of, shelf_with, text_of};
-use crate::run::run;
-use crate::status::Status;
 use crate::tests::words_of;
 use log_checker::Checker;
 use sched_base::{MemShelf, MemSink, OpenGate};
+use scheduler::{Status, run};
 use std::process::Abort;
 use std::thread::Threads;
 use worked_projects::{TWO_IN_TURN, build};

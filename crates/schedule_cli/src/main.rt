@@ -3,49 +3,35 @@
 //! project.
 #![tactic(auto)]
 
-mod answer;
 #[cfg(test)]
 mod bound_tests;
-mod bounding;
 #[cfg(test)]
 mod check_tests;
 mod file_shelf;
 #[cfg(test)]
 mod hostile_tests;
-mod judging;
-mod laws;
 #[cfg(test)]
 mod meeting_tests;
 #[cfg(test)]
 mod plan_tests;
-mod plan_text;
-mod planning;
 #[cfg(test)]
 mod print_tests;
 mod progress;
-mod reading;
 #[cfg(test)]
 mod refusal_tests;
-mod run;
 #[cfg(test)]
 mod solve_tests;
-mod solving;
-mod status;
 mod std_sink;
-mod stop;
-mod tell;
 #[cfg(test)]
 mod tests;
 #[cfg(test)]
 mod trial_tests;
-mod verifying;
 
 use crate::file_shelf::FileShelf;
 use crate::progress::Progress;
-use crate::run::run;
-use crate::status::Status;
 use crate::std_sink::StdSink;
 use plan_words::{Command, parse_words};
+use scheduler::{Status, run};
 use std::alloc::{AllocError, Global};
 use std::env::{Env, FillError};
 use std::io::IsTerminal;

@@ -1,10 +1,9 @@
 //! Two workers are at work at the same time: each enters its part in a round before the other has left its first gate.
 
-use crate::run::run;
-use crate::status::Status;
 use crate::tests::{shelf_of, words_of};
 use project_net::print_project;
 use sched_base::{Gate, MemSink};
+use scheduler::{Status, run};
 use std::sync::atomic::{AtomicU64, Ordering};
 use worked_projects::{TWO_IN_TURN, build};
 

@@ -1,10 +1,9 @@
 //! Plans of projects that are worked out by hand, and searches that begin with plans from tries.
 
 use crate::check_tests::{report_of, shelf_with, text_of};
-use crate::run::run;
-use crate::status::Status;
 use crate::tests::{check, shelf_of, words_of};
 use sched_base::{MemSink, OpenGate};
+use scheduler::{Status, run};
 use std::process::Abort;
 use std::thread::Threads;
 use worked_projects::{

@@ -1,10 +1,9 @@
 //! Projects that are printed: those that are read, and those that are made.
 
-use crate::run::run;
-use crate::status::Status;
 use crate::tests::{append_jobs, check, shelf_of, words_of};
 use project_net::print_project;
 use sched_base::{MemSink, OpenGate};
+use scheduler::{Status, run};
 use std::alloc::{AllocError, Global};
 use std::process::Abort;
 use std::thread::Threads;

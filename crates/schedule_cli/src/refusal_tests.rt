@@ -1,7 +1,7 @@
 //! The refusals of a project text, as the program tells them: a canonical text with one edit.
 
-use crate::status::Status;
 use crate::tests::check_text;
+use scheduler::Status;
 use std::alloc::{AllocError, Global};
 
 /// The canonical text of four jobs on one resource, without its last LF.

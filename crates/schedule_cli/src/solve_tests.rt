@@ -1,10 +1,9 @@
 //! Projects that are worked out by hand, solved by one worker: the report, byte for byte.
 
-use crate::run::run;
-use crate::status::Status;
 use crate::tests::{check, shelf_of, words_of};
 use project_net::print_project;
 use sched_base::{MemSink, OpenGate};
+use scheduler::{Status, run};
 use std::process::Abort;
 use std::thread::Threads;
 use worked_projects::{

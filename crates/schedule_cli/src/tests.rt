@@ -1,7 +1,6 @@
-use crate::run::run;
-use crate::status::Status;
 use project_net::print_project;
 use sched_base::{MemShelf, MemSink, OpenGate};
+use scheduler::{Status, run};
 use std::alloc::{AllocError, Global};
 use std::process::Abort;
 use std::thread::Threads;

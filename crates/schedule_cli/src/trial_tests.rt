@@ -1,9 +1,8 @@
 //! Made projects that are solved.
 
-use crate::run::run;
-use crate::status::Status;
 use crate::tests::{check, shelf_of, words_of};
 use sched_base::{MemSink, OpenGate};
+use scheduler::{Status, run};
 use std::process::Abort;
 use std::thread::Threads;
 

@@ -5,16 +5,16 @@ use Rattle.rcpsp_model.specs.Project.{Project}
 use Rattle.sched_base.specs.Outside.{Gains}
 use Rattle.bound_checker.specs.declared.checker.BoundRefusal.{BoundRefusal}
 use Rattle.bound_checker.specs.Judged.{AcceptsBound}
-use Rattle.schedule_cli.specs.declared.answer.Answer.{Answer}
-use Rattle.schedule_cli.specs.declared.answer.Answer.TheVariants as answers
-use Rattle.schedule_cli.specs.declared.answer.Outcome.TheVariants as outcomes
-use Rattle.schedule_cli.specs.declared.status.Status.{Status}
-use Rattle.schedule_cli.specs.declared.status.Status.TheVariants as statuses
+use Rattle.scheduler.specs.declared.answer.Answer.{Answer}
+use Rattle.scheduler.specs.declared.answer.Answer.TheVariants as answers
+use Rattle.scheduler.specs.declared.answer.Outcome.TheVariants as outcomes
+use Rattle.scheduler.specs.declared.status.Status.{Status}
+use Rattle.scheduler.specs.declared.status.Status.TheVariants as statuses
 use Rattle.plan_words.specs.Words.{IsBound, IsVerify, project_name}
-use Rattle.schedule_cli.specs.Status.{IsServed}
-use Rattle.schedule_cli.specs.Answer.{IsOutcomeUnder, IsVerifiedTo, IsAnswerTo, IsAccepted, TellsBound, Verifies, status_of, status_of_bound_judgement, text_of, text_of_bound_judgement}
+use Rattle.scheduler.specs.Status.{IsServed}
+use Rattle.scheduler.specs.Answer.{IsOutcomeUnder, IsVerifiedTo, IsAnswerTo, IsAccepted, TellsBound, Verifies, status_of, status_of_bound_judgement, text_of, text_of_bound_judgement}
 use Rattle.plan_words.proofs.CommandWords.{bad_is_none, not_made, not_tried, bound_not_solved, bound_not_judged, bound_not_shown, bound_not_planned, verified_not_solved, verified_not_judged, verified_not_shown, verified_not_planned, verified_not_bound}
-use Rattle.schedule_cli.proofs.StatusesTold.{asks_solve, asks_plan, asks_show, asks_bound}
+use Rattle.scheduler.proofs.StatusesTold.{asks_solve, asks_plan, asks_show, asks_bound}
 
 -- ---- `bound`
 

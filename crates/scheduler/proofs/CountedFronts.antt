@@ -19,7 +19,7 @@ use Rattle.log_truth.proofs.JoinedLogs.{node-line}
 use Rattle.log_truth.proofs.LineFronts.{line-open, node-front}
 use Rattle.log_truth.proofs.OneLine.{one_line_law}
 use Rattle.log_truth.proofs.OneRefusal.{expanded-cons}
-use Rattle.schedule_cli.specs.Solve.{EndsAtLimit, AreDifferent, HasAtMostFronts}
+use Rattle.scheduler.specs.Solve.{EndsAtLimit, AreDifferent, HasAtMostFronts}
 
 -- The node of a line that was left.
 

@@ -15,12 +15,12 @@ use Rattle.log_checker.specs.Refusal.{whole_from, rest_from, whole_lines, rest_o
 use Rattle.log_checker.specs.Checker.{CheckerState, Runs, StandsAs, StandsFor, IsFinished, IsJudgement}
 use Rattle.log_checker.proofs.FedBytes.{stands-refused}
 use Rattle.log_checker.proofs.RoomForNumbers.{few-lines}
-use Rattle.schedule_cli.specs.declared.answer.Judgement.{Judgement}
-use Rattle.schedule_cli.specs.declared.answer.Judgement.TheVariants as judgements
-use Rattle.schedule_cli.specs.declared.judging.TheConstants.{MOST_REPORT}
-use Rattle.schedule_cli.specs.Feeding.{HasAll}
-use Rattle.schedule_cli.specs.Judging.{result_of, IsJudgementOf}
-use Rattle.schedule_cli.proofs.FedTexts.{text_told}
+use Rattle.scheduler.specs.declared.answer.Judgement.{Judgement}
+use Rattle.scheduler.specs.declared.answer.Judgement.TheVariants as judgements
+use Rattle.scheduler.specs.declared.judging.TheConstants.{MOST_REPORT}
+use Rattle.scheduler.specs.Feeding.{HasAll}
+use Rattle.scheduler.specs.Judging.{result_of, IsJudgementOf}
+use Rattle.scheduler.proofs.FedTexts.{text_told}
 
 -- Bytes that break no rule are few.
 

@@ -1,7 +1,7 @@
 -- What a judge stands for while a text is read: all of it in the end.
 use Rattle.std.proofs.Common.{◌≡◌, ℕ, ◌+◌, ◌≤◌, arith, refl, sym, ap, ◌∙◌, Option, Some, None, IsSome, List, [], ◌++◌, length, take, length-append, length-take, append_assoc}
 use Rattle.sched_base.specs.Outside.{Takes, Begins}
-use Rattle.schedule_cli.specs.Feeding.{IsTextUnder, HasTaken, HasAll, IsTaken}
+use Rattle.scheduler.specs.Feeding.{IsTextUnder, HasTaken, HasAll, IsTaken}
 
 -- One read.
 

@@ -5,18 +5,18 @@ use Rattle.rcpsp_model.specs.declared.parts.Placing.{Placing}
 use Rattle.rcpsp_model.specs.Project.{Project}
 use Rattle.rcpsp_model.specs.Plan.{IsFirstPlan}
 use Rattle.sched_base.specs.Outside.{Gains}
-use Rattle.schedule_cli.specs.declared.answer.Answer.{Answer}
-use Rattle.schedule_cli.specs.declared.answer.Answer.TheVariants as answers
-use Rattle.schedule_cli.specs.declared.answer.Outcome.TheVariants as outcomes
-use Rattle.schedule_cli.specs.declared.planning.Plan.{Plan}
-use Rattle.schedule_cli.specs.declared.status.Status.{Status}
-use Rattle.schedule_cli.specs.declared.status.Status.TheVariants as statuses
+use Rattle.scheduler.specs.declared.answer.Answer.{Answer}
+use Rattle.scheduler.specs.declared.answer.Answer.TheVariants as answers
+use Rattle.scheduler.specs.declared.answer.Outcome.TheVariants as outcomes
+use Rattle.scheduler.specs.declared.planning.Plan.{Plan}
+use Rattle.scheduler.specs.declared.status.Status.{Status}
+use Rattle.scheduler.specs.declared.status.Status.TheVariants as statuses
 use Rattle.plan_words.specs.Words.{IsPlan, project_name, tries_in}
-use Rattle.schedule_cli.specs.Status.{IsSolved}
-use Rattle.schedule_cli.specs.Planning.{IsJustified, IsPlanFrom, with_end, IsPlanned}
-use Rattle.schedule_cli.specs.Answer.{IsOutcomeUnder, IsAnswerTo, IsNamed, HasFirstPlan, TellsPlan, status_of, status_of_plan, text_of, text_of_plan}
+use Rattle.scheduler.specs.Status.{IsSolved}
+use Rattle.scheduler.specs.Planning.{IsJustified, IsPlanFrom, with_end, IsPlanned}
+use Rattle.scheduler.specs.Answer.{IsOutcomeUnder, IsAnswerTo, IsNamed, HasFirstPlan, TellsPlan, status_of, status_of_plan, text_of, text_of_plan}
 use Rattle.plan_words.proofs.CommandWords.{bad_is_none, not_made, not_tried, planned_not_judged, planned_not_shown, planned_not_solved, bound_not_planned, verified_not_planned}
-use Rattle.schedule_cli.proofs.StatusesTold.{asks_solve, asks_show, asks_bound}
+use Rattle.scheduler.proofs.StatusesTold.{asks_solve, asks_show, asks_bound}
 
 -- the project under the name, of which this is the plan
 record IsPlannedUnder (words : List (List ℕ)) (texts : Option (List (List ℕ × List ℕ))) (told : Option Plan) : Type 0 where

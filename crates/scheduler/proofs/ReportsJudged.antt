@@ -12,20 +12,20 @@ use Rattle.log_truth.specs.Holds.{Accepts}
 use Rattle.log_checker.specs.declared.refused.Refused.{Refused}
 use Rattle.log_checker.specs.declared.refused.Refused.TheVariants.{Report as broken}
 use Rattle.log_checker.specs.Checker.{AcceptsAs}
-use Rattle.schedule_cli.specs.declared.answer.Answer.{Answer}
-use Rattle.schedule_cli.specs.declared.answer.Answer.TheVariants as answers
-use Rattle.schedule_cli.specs.declared.answer.Judgement.{Judgement}
-use Rattle.schedule_cli.specs.declared.answer.Judgement.TheVariants as judgements
-use Rattle.schedule_cli.specs.declared.answer.Outcome.TheVariants as outcomes
-use Rattle.schedule_cli.specs.declared.status.Status.{Status}
-use Rattle.schedule_cli.specs.declared.status.Status.TheVariants as statuses
+use Rattle.scheduler.specs.declared.answer.Answer.{Answer}
+use Rattle.scheduler.specs.declared.answer.Answer.TheVariants as answers
+use Rattle.scheduler.specs.declared.answer.Judgement.{Judgement}
+use Rattle.scheduler.specs.declared.answer.Judgement.TheVariants as judgements
+use Rattle.scheduler.specs.declared.answer.Outcome.TheVariants as outcomes
+use Rattle.scheduler.specs.declared.status.Status.{Status}
+use Rattle.scheduler.specs.declared.status.Status.TheVariants as statuses
 use Rattle.plan_words.specs.Words.{IsCheck, project_name, report_name}
-use Rattle.schedule_cli.specs.Status.{IsServed}
-use Rattle.schedule_cli.specs.Answer.{IsAnswerTo, IsJudgementTo, Judges, status_of, status_of_judgement, text_of, text_of_judgement}
-use Rattle.schedule_cli.specs.Laws.{OwnReportLaw}
+use Rattle.scheduler.specs.Status.{IsServed}
+use Rattle.scheduler.specs.Answer.{IsAnswerTo, IsJudgementTo, Judges, status_of, status_of_judgement, text_of, text_of_judgement}
+use Rattle.scheduler.specs.Laws.{OwnReportLaw}
 use Rattle.plan_words.proofs.CommandWords.{bad_is_none, not_made, not_solved, judged_not_shown, not_tried, planned_not_judged, bound_not_judged, verified_not_judged}
-use Rattle.schedule_cli.proofs.StatusesTold.{asks_solve, asks_plan, asks_show, asks_bound}
-use Rattle.schedule_cli.proofs.ReportsTold.{tells_accepted}
+use Rattle.scheduler.proofs.StatusesTold.{asks_solve, asks_plan, asks_show, asks_bound}
+use Rattle.scheduler.proofs.ReportsTold.{tells_accepted}
 
 as_its : (P : Project) (bytes : List ℕ) (accepted : Accepts P bytes) → AcceptsAs P bytes accepted.report.verdict
 as_its P bytes accepted = record { accepts = accepted; is_its = refl }

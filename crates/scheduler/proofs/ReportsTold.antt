@@ -7,17 +7,17 @@ use Rattle.sched_base.specs.Outside.{Gains}
 use Rattle.proof_log.specs.declared.report.Report.{Report}
 use Rattle.proof_log.specs.Text.{text}
 use Rattle.log_truth.specs.Holds.{IsLimit}
-use Rattle.schedule_cli.specs.declared.answer.Answer.{Answer}
-use Rattle.schedule_cli.specs.declared.answer.Answer.TheVariants as answers
-use Rattle.schedule_cli.specs.declared.answer.Outcome.TheVariants as outcomes
-use Rattle.schedule_cli.specs.declared.status.Status.{Status}
-use Rattle.schedule_cli.specs.declared.status.Status.TheVariants as statuses
+use Rattle.scheduler.specs.declared.answer.Answer.{Answer}
+use Rattle.scheduler.specs.declared.answer.Answer.TheVariants as answers
+use Rattle.scheduler.specs.declared.answer.Outcome.TheVariants as outcomes
+use Rattle.scheduler.specs.declared.status.Status.{Status}
+use Rattle.scheduler.specs.declared.status.Status.TheVariants as statuses
 use Rattle.plan_words.specs.Words.{IsSolve, project_name, workers_in, nodes_in, tries_in, prints_log}
-use Rattle.schedule_cli.specs.Status.{IsSolved}
-use Rattle.schedule_cli.specs.Solve.{IsSolution, IsNoLaterThanFirst, ExpandsNoTwins, HasAtMostFronts, with_log, IsSearched}
-use Rattle.schedule_cli.specs.Answer.{IsOutcomeUnder, IsAnswerTo, IsNamed, Tells, WhereSolved, TellsAccepted, status_of, status_of_verdict, text_of}
+use Rattle.scheduler.specs.Status.{IsSolved}
+use Rattle.scheduler.specs.Solve.{IsSolution, IsNoLaterThanFirst, ExpandsNoTwins, HasAtMostFronts, with_log, IsSearched}
+use Rattle.scheduler.specs.Answer.{IsOutcomeUnder, IsAnswerTo, IsNamed, Tells, WhereSolved, TellsAccepted, status_of, status_of_verdict, text_of}
 use Rattle.plan_words.proofs.CommandWords.{bad_is_none, not_made, not_shown, not_solved, not_tried, planned_not_solved, bound_not_solved, verified_not_solved}
-use Rattle.schedule_cli.proofs.StatusesTold.{asks_plan, asks_show, asks_bound}
+use Rattle.scheduler.proofs.StatusesTold.{asks_plan, asks_show, asks_bound}
 
 -- the project under the name, of which this is the report
 record IsReported (words : List (List ℕ)) (texts : Option (List (List ℕ × List ℕ))) (told : Report) : Type 0 where

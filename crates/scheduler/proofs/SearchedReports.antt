@@ -13,10 +13,10 @@ use Rattle.search_rounds.specs.declared.found.Found.{Found}
 use Rattle.search_rounds.specs.Found.{end_of_plan, report_of}
 use Rattle.search_rounds.specs.Laws as search
 use Rattle.serial_scheme.proofs.PlanFacts.{first-end}
-use Rattle.schedule_cli.specs.Solve.{IsLeanFromStart, IsFoundFromStart, IsSolution, IsDoneBy, IsNoLaterThanFirst, with_log, IsSearched}
-use Rattle.schedule_cli.proofs.TwinLines.{no_twins}
-use Rattle.schedule_cli.proofs.Starts.{start_no_later}
-use Rattle.schedule_cli.proofs.CountedFronts.{limit_ends, fronts_suffice}
+use Rattle.scheduler.specs.Solve.{IsLeanFromStart, IsFoundFromStart, IsSolution, IsDoneBy, IsNoLaterThanFirst, with_log, IsSearched}
+use Rattle.scheduler.proofs.TwinLines.{no_twins}
+use Rattle.scheduler.proofs.Starts.{start_no_later}
+use Rattle.scheduler.proofs.CountedFronts.{limit_ends, fronts_suffice}
 
 done-by : (o : Option ℕ) (n : ℕ) → end_number o ≤ n → n < 4294967295 → IsDoneBy o n
 done-by None n le few = absurd (omega (arith, le, few))

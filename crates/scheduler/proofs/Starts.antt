@@ -8,8 +8,8 @@ use Rattle.rcpsp_model.proofs.OnePlan.{one_first_plan_law}
 use Rattle.plan_search.specs.Plans.{EndsNoLater}
 use Rattle.search_log.specs.Lean.{end_number}
 use Rattle.search_rounds.specs.Found.{end_of_plan}
-use Rattle.schedule_cli.specs.Planning.{IsPlanFrom, IsStart}
-use Rattle.schedule_cli.proofs.NoLater.{no_later_itself}
+use Rattle.scheduler.specs.Planning.{IsPlanFrom, IsStart}
+use Rattle.scheduler.proofs.NoLater.{no_later_itself}
 
 ends-by : (P : Project) (plan : Option (List Placing)) (first : List Placing) → EndsNoLater P (Some first) plan → end_number (end_of_plan P plan) ≤ end_of P (entries first)
 ends-by P None first no_later = absurd no_later

@@ -6,19 +6,19 @@ use Rattle.rcpsp_model.specs.declared.parts.Verdict.TheVariants.{Optimal, Infeas
 use Rattle.psplib_reader.proofs.OneReading.{never_both}
 use Rattle.sched_base.specs.Outside.{text_under}
 use Rattle.proof_log.specs.declared.report.Report.{Report}
-use Rattle.schedule_cli.specs.declared.answer.Answer.{Answer}
-use Rattle.schedule_cli.specs.declared.answer.Answer.TheVariants as answers
-use Rattle.schedule_cli.specs.declared.answer.Judgement.{Judgement}
-use Rattle.schedule_cli.specs.declared.answer.Judgement.TheVariants as judgements
-use Rattle.schedule_cli.specs.declared.answer.Outcome.{Outcome}
-use Rattle.schedule_cli.specs.declared.answer.Outcome.TheVariants as outcomes
-use Rattle.schedule_cli.specs.declared.planning.Plan.{Plan}
+use Rattle.scheduler.specs.declared.answer.Answer.{Answer}
+use Rattle.scheduler.specs.declared.answer.Answer.TheVariants as answers
+use Rattle.scheduler.specs.declared.answer.Judgement.{Judgement}
+use Rattle.scheduler.specs.declared.answer.Judgement.TheVariants as judgements
+use Rattle.scheduler.specs.declared.answer.Outcome.{Outcome}
+use Rattle.scheduler.specs.declared.answer.Outcome.TheVariants as outcomes
+use Rattle.scheduler.specs.declared.planning.Plan.{Plan}
 use Rattle.bound_checker.specs.declared.checker.BoundRefusal.{BoundRefusal}
-use Rattle.schedule_cli.specs.declared.status.Status.{Status}
-use Rattle.schedule_cli.specs.declared.status.Status.TheVariants as statuses
+use Rattle.scheduler.specs.declared.status.Status.{Status}
+use Rattle.scheduler.specs.declared.status.Status.TheVariants as statuses
 use Rattle.plan_words.specs.Words.{IsSolve, IsCheck, IsShow, IsPlan, IsBound, IsVerify, IsMake, IsTrial, IsMade, IsPrint, IsOnProject, project_name}
-use Rattle.schedule_cli.specs.Status.{IsSolved, IsServed}
-use Rattle.schedule_cli.specs.Answer.{IsOutcomeOf, IsOutcomeUnder, IsAnswerTo, NamesProject, NamesNoProject, HasProject, status_of, status_of_plan, status_of_verdict, status_of_judgement, status_of_bound_judgement}
+use Rattle.scheduler.specs.Status.{IsSolved, IsServed}
+use Rattle.scheduler.specs.Answer.{IsOutcomeOf, IsOutcomeUnder, IsAnswerTo, NamesProject, NamesNoProject, HasProject, status_of, status_of_plan, status_of_verdict, status_of_judgement, status_of_bound_judgement}
 use Rattle.plan_words.proofs.CommandWords.{on_project_stands, bad_is_none, not_made, not_shown, judged_not_shown, not_tried, make_not_tried, made_stands, read_not_made, planned_not_shown, bound_not_shown, verified_not_shown}
 
 verdict_serves : (v : Verdict) → IsServed (status_of_verdict v)

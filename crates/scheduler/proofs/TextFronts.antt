@@ -7,10 +7,10 @@ use Rattle.psplib_layout.specs.Text.{Reads}
 use Rattle.psplib_layout.proofs.OneContent.{long_text}
 use Rattle.rcpsp_model.specs.Project.{Project}
 use Rattle.sched_base.specs.Outside.{text_under}
-use Rattle.schedule_cli.specs.declared.answer.Outcome.{Outcome}
-use Rattle.schedule_cli.specs.declared.answer.Outcome.TheVariants.{Solved, Planned, Shown, Bounded, BadProject}
+use Rattle.scheduler.specs.declared.answer.Outcome.{Outcome}
+use Rattle.scheduler.specs.declared.answer.Outcome.TheVariants.{Solved, Planned, Shown, Bounded, BadProject}
 use Rattle.plan_words.specs.Words.{project_name}
-use Rattle.schedule_cli.specs.Answer.{IsOutcomeOf, IsOutcomeUnder, IsNamed}
+use Rattle.scheduler.specs.Answer.{IsOutcomeOf, IsOutcomeUnder, IsNamed}
 
 long_front : (text : List ℕ) (most : ℕ) → MOST_BYTES < most → MOST_BYTES < length text → MOST_BYTES < length (take most text)
 long_front text most more long = let n = length-take most text in omega arith

@@ -9,18 +9,18 @@ use Rattle.rcpsp_model.specs.Claim.{Claim}
 use Rattle.sched_base.specs.Outside.{Gains}
 use Rattle.project_gen.specs.Made.{made}
 use Rattle.proof_log.specs.declared.report.Report.{Report}
-use Rattle.schedule_cli.specs.declared.answer.Answer.{Answer}
-use Rattle.schedule_cli.specs.declared.answer.Answer.TheVariants as answers
-use Rattle.schedule_cli.specs.declared.answer.Trial.{Trial}
-use Rattle.schedule_cli.specs.declared.status.Status.{Status}
-use Rattle.schedule_cli.specs.declared.status.Status.TheVariants as statuses
+use Rattle.scheduler.specs.declared.answer.Answer.{Answer}
+use Rattle.scheduler.specs.declared.answer.Answer.TheVariants as answers
+use Rattle.scheduler.specs.declared.answer.Trial.{Trial}
+use Rattle.scheduler.specs.declared.status.Status.{Status}
+use Rattle.scheduler.specs.declared.status.Status.TheVariants as statuses
 use Rattle.plan_words.specs.Words.{IsTrial, project_name, seed_in, jobs_in, modes_in}
-use Rattle.schedule_cli.specs.Status.{IsSolved}
-use Rattle.schedule_cli.specs.Answer.{IsAnswerTo, IsTrialTo, Tries, status_of, status_of_verdict, text_of, text_of_trial, size_lines, verdict_lines}
-use Rattle.schedule_cli.specs.Laws.{SameTrialLaw}
+use Rattle.scheduler.specs.Status.{IsSolved}
+use Rattle.scheduler.specs.Answer.{IsAnswerTo, IsTrialTo, Tries, status_of, status_of_verdict, text_of, text_of_trial, size_lines, verdict_lines}
+use Rattle.scheduler.specs.Laws.{SameTrialLaw}
 use Rattle.plan_words.proofs.CommandWords.{bad_is_none, make_not_tried, not_tried}
-use Rattle.schedule_cli.proofs.StatusesTold.{asks_project, told_tried}
-use Rattle.schedule_cli.proofs.ReportsTold.{verdict_with_log, limit_is}
+use Rattle.scheduler.proofs.StatusesTold.{asks_project, told_tried}
+use Rattle.scheduler.proofs.ReportsTold.{verdict_with_log, limit_is}
 
 tries-by : (words : List (List ℕ)) (trial : Trial) (status : Status) (before now : Option (List ℕ)) → IsTrialTo words trial → status ≡ status_of_verdict trial.verdict → Gains before now (text_of_trial trial) → Tries words status before now
 tries-by words trial status before now is e gains =

@@ -14,7 +14,7 @@ use Rattle.log_truth.proofs.OneLine.{get-In, one_node_law}
 use Rattle.search_log.specs.declared.row.Origin.{Origin}
 use Rattle.search_log.specs.Lean.{Seen, seen_node, seen_nodes, seen_lines, IsBegun, IsKnown, by_round, by_turn, IsLeanLog}
 use Rattle.search_rounds.specs.Found.{end_of_plan}
-use Rattle.schedule_cli.specs.Solve.{IsLeanFromStart, DominateEachOther}
+use Rattle.scheduler.specs.Solve.{IsLeanFromStart, DominateEachOther}
 
 -- the node with this place, with its origin
 record SeenAt (ns : List LogNode) (os : List Origin) (i : ℕ) (n : LogNode) : Type 0 where

@@ -16,30 +16,30 @@ use Rattle.proof_log.specs.declared.report.Report.{Report}
 use Rattle.proof_log.specs.Report.{IsReport}
 use Rattle.proof_log.specs.declared.line.ReportLine.TheVariants.{Duration}
 use Rattle.proof_log.specs.Text.{text, text_of_lines, job_lines}
-use Rattle.schedule_cli.specs.declared.answer.Answer.{Answer}
-use Rattle.schedule_cli.specs.declared.answer.Answer.TheVariants as answers
+use Rattle.scheduler.specs.declared.answer.Answer.{Answer}
+use Rattle.scheduler.specs.declared.answer.Answer.TheVariants as answers
 use Rattle.log_checker.specs.declared.reason.Reason.{Reason}
 use Rattle.log_checker.specs.Reasons.{number_of}
 use Rattle.log_checker.specs.Refusal.{IsRefusal}
-use Rattle.schedule_cli.specs.declared.answer.Judgement.{Judgement}
-use Rattle.schedule_cli.specs.declared.answer.Trial.{Trial}
-use Rattle.schedule_cli.specs.declared.answer.Judgement.TheVariants as judgements
-use Rattle.schedule_cli.specs.declared.answer.Outcome.{Outcome}
-use Rattle.schedule_cli.specs.declared.answer.Outcome.TheVariants as outcomes
-use Rattle.schedule_cli.specs.declared.planning.Plan.{Plan}
-use Rattle.schedule_cli.specs.declared.solving.Request.{Request}
-use Rattle.schedule_cli.specs.declared.status.Status.{Status}
-use Rattle.schedule_cli.specs.declared.status.Status.TheVariants as statuses
+use Rattle.scheduler.specs.declared.answer.Judgement.{Judgement}
+use Rattle.scheduler.specs.declared.answer.Trial.{Trial}
+use Rattle.scheduler.specs.declared.answer.Judgement.TheVariants as judgements
+use Rattle.scheduler.specs.declared.answer.Outcome.{Outcome}
+use Rattle.scheduler.specs.declared.answer.Outcome.TheVariants as outcomes
+use Rattle.scheduler.specs.declared.planning.Plan.{Plan}
+use Rattle.scheduler.specs.declared.solving.Request.{Request}
+use Rattle.scheduler.specs.declared.status.Status.{Status}
+use Rattle.scheduler.specs.declared.status.Status.TheVariants as statuses
 use Rattle.log_truth.specs.Holds.{Accepts}
-use Rattle.schedule_cli.specs.Planning.{IsPlanFrom, with_end, IsPlanned}
-use Rattle.schedule_cli.specs.Feeding.{IsTextUnder}
-use Rattle.schedule_cli.specs.Bounding.{IsBoundText}
-use Rattle.schedule_cli.specs.Verifying.{IsBoundJudgementOf}
+use Rattle.scheduler.specs.Planning.{IsPlanFrom, with_end, IsPlanned}
+use Rattle.scheduler.specs.Feeding.{IsTextUnder}
+use Rattle.scheduler.specs.Bounding.{IsBoundText}
+use Rattle.scheduler.specs.Verifying.{IsBoundJudgementOf}
 use Rattle.bound_checker.specs.declared.checker.BoundRefusal.{BoundRefusal}
 use Rattle.bound_checker.specs.Judged.{AcceptsBound, IsBoundRefusal}
-use Rattle.schedule_cli.specs.Judging.{IsJudgementOf}
-use Rattle.schedule_cli.specs.Status.{IsSolved}
-use Rattle.schedule_cli.specs.Solve.{with_log, IsSearched, IsSearchedTo, IsSolution, IsNoLaterThanFirst, ExpandsNoTwins, HasAtMostFronts}
+use Rattle.scheduler.specs.Judging.{IsJudgementOf}
+use Rattle.scheduler.specs.Status.{IsSolved}
+use Rattle.scheduler.specs.Solve.{with_log, IsSearched, IsSearchedTo, IsSolution, IsNoLaterThanFirst, ExpandsNoTwins, HasAtMostFronts}
 use Rattle.plan_words.specs.Words.{bad_word, IsSolve, IsCheck, IsShow, IsPlan, IsBound, IsVerify, IsMake, IsTrial, IsMade, IsOnProject, project_name, report_name, bound_name, seed_in, jobs_in, modes_in, workers_in, nodes_in, tries_in, trial_workers_in, trial_nodes_in, prints_log}
 
 -- the number of a fault of a project text

@@ -5,9 +5,9 @@ use Rattle.rcpsp_model.specs.Project.{Project}
 use Rattle.log_checker.specs.declared.refused.Refused.{Refused}
 use Rattle.log_checker.specs.declared.refused.Refused.TheVariants.{Report}
 use Rattle.log_checker.specs.Checker.{IsJudgement}
-use Rattle.schedule_cli.specs.declared.answer.Judgement.{Judgement}
-use Rattle.schedule_cli.specs.declared.answer.Judgement.TheVariants.{Accepted, Refused as refused}
-use Rattle.schedule_cli.specs.Feeding.{IsTextUnder}
+use Rattle.scheduler.specs.declared.answer.Judgement.{Judgement}
+use Rattle.scheduler.specs.declared.answer.Judgement.TheVariants.{Accepted, Refused as refused}
+use Rattle.scheduler.specs.Feeding.{IsTextUnder}
 
 -- the judge's result
 abbrev pub result_of : Judgement → Result Verdict Refused

@@ -1,11 +1,11 @@
 -- What two runs have to do with each other.
 use Rattle.std.specs.Prelude.{◌≡◌, ℕ, true, List, ◌++◌, Option, Some}
 use Rattle.sched_base.specs.Outside.{text_under}
-use Rattle.schedule_cli.specs.declared.status.Status.{Status}
-use Rattle.schedule_cli.specs.declared.status.Status.TheVariants.{Done, Limit}
+use Rattle.scheduler.specs.declared.status.Status.{Status}
+use Rattle.scheduler.specs.declared.status.Status.TheVariants.{Done, Limit}
 use Rattle.plan_words.specs.Words.{IsSolve, IsCheck, IsTrial, project_name, report_name, seed_in, jobs_in, modes_in, prints_log}
-use Rattle.schedule_cli.specs.Status.{IsSolved}
-use Rattle.schedule_cli.specs.Answer.{Runs}
+use Rattle.scheduler.specs.Status.{IsSolved}
+use Rattle.scheduler.specs.Answer.{Runs}
 
 -- A report that `solve` printed with its log is accepted by `check`: where the bytes that the one run wrote stand under the
 -- report's name, and the same project under the project's, a run of the other that tells an answer ends with status 0

@@ -6,7 +6,7 @@ use Rattle.rcpsp_model.specs.Schedule.{IsFeasible, end_of, entries}
 use Rattle.rcpsp_model.specs.Plan.{IsFirstPlan}
 use Rattle.justify_plans.specs.Improved.{IsImproved}
 use Rattle.plan_search.specs.Plans.{EndsNoLater}
-use Rattle.schedule_cli.specs.declared.planning.Plan.{Plan}
+use Rattle.scheduler.specs.declared.planning.Plan.{Plan}
 
 -- what passes back and forth improve a plan to; none where there is no plan
 abbrev pub IsJustified : Project → Option (List Placing) → Option (List Placing) → Type 0

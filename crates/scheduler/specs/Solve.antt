@@ -19,7 +19,7 @@ use Rattle.search_log.specs.declared.row.Origin.{Origin}
 use Rattle.search_log.specs.Lean.{IsLeanLog}
 use Rattle.search_rounds.specs.declared.found.Found.{Found}
 use Rattle.search_rounds.specs.Found.{end_of_plan, IsFound}
-use Rattle.schedule_cli.specs.Planning.{IsStart}
+use Rattle.scheduler.specs.Planning.{IsStart}
 
 -- exactly so many lines are expanded, and one was left, with a bound below the duration, if there is one
 pub record EndsAtLimit (nodes : ℕ) (verdict : Verdict) (lines : List LogLine) : Type 0 where

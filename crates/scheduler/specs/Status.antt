@@ -1,8 +1,8 @@
 -- How a run ends.
 use Rattle.std.specs.Prelude.{ℕ}
 use Rattle.sched_base.specs.Outside.{Rose}
-use Rattle.schedule_cli.specs.declared.status.Status.{Status}
-use Rattle.schedule_cli.specs.declared.status.Status.TheVariants.{Done, Infeasible, Limit, ReportRefused, BadWords, BadProject, ReadFault, WriteFault, NoMemory}
+use Rattle.scheduler.specs.declared.status.Status.{Status}
+use Rattle.scheduler.specs.declared.status.Status.TheVariants.{Done, Infeasible, Limit, ReportRefused, BadWords, BadProject, ReadFault, WriteFault, NoMemory}
 
 -- the number that the program ends with
 abbrev pub status_number : Status → ℕ

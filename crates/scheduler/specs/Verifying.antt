@@ -3,7 +3,7 @@ use Rattle.std.specs.Prelude.{ℕ, Option, Result, List}
 use Rattle.rcpsp_model.specs.Project.{Project}
 use Rattle.bound_checker.specs.declared.checker.BoundRefusal.{BoundRefusal}
 use Rattle.bound_checker.specs.Checker.{IsJudgement}
-use Rattle.schedule_cli.specs.Feeding.{IsTextUnder}
+use Rattle.scheduler.specs.Feeding.{IsTextUnder}
 
 -- what the text under the name comes to, as that of a bound of the project
 pub record IsBoundJudgementOf (P : Project) (texts : Option (List (List ℕ × List ℕ))) (name : List ℕ) (out : Result ℕ BoundRefusal) : Type 0 where

@@ -1,5 +1,5 @@
 ghost use Rattle.std.specs.Prelude.{◌≡◌};
-ghost use Rattle.schedule_cli.specs.Answer.{status_of_plan, status_of_verdict};
+ghost use Rattle.scheduler.specs.Answer.{status_of_plan, status_of_verdict};
 
 use crate::planning::Plan;
 use crate::status::Status;
@@ -86,7 +86,7 @@ fn plan_status(plan: &Option<Plan>) -> Status
 }
 
 impl Answer {
-    ghost use Rattle.schedule_cli.specs.Answer.{status_of};
+    ghost use Rattle.scheduler.specs.Answer.{status_of};
 
     /// The status that the answer has.
     pub fn status(&self) -> Status

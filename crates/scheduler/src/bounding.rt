@@ -2,10 +2,10 @@
 
 ghost use Rattle.std.specs.Prelude.{◌≡◌, ℕ, List as Items, Err, IfOk};
 ghost use Rattle.plan_words.specs.Words.{IsBound};
-ghost use Rattle.schedule_cli.specs.declared.answer.Answer.TheVariants as answers;
-ghost use Rattle.schedule_cli.specs.declared.stop.Stop.TheVariants as stops;
-ghost use Rattle.schedule_cli.specs.Bounding.{IsBoundText};
-ghost use Rattle.schedule_cli.specs.Answer.{IsOutcomeOf, IsTellable};
+ghost use Rattle.scheduler.specs.declared.answer.Answer.TheVariants as answers;
+ghost use Rattle.scheduler.specs.declared.stop.Stop.TheVariants as stops;
+ghost use Rattle.scheduler.specs.Bounding.{IsBoundText};
+ghost use Rattle.scheduler.specs.Answer.{IsOutcomeOf, IsTellable};
 
 use crate::answer::Outcome;
 use crate::stop::Stop;

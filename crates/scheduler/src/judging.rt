@@ -4,10 +4,10 @@ ghost use Rattle.std.specs.Prelude.{◌≡◌, ◌≤◌, ℕ, List as Items, []
 ghost use Rattle.sched_base.specs.Outside.{Rose};
 ghost use Rattle.rcpsp_model.specs.Project.{IsProject};
 ghost use Rattle.log_checker.specs.Checker.{StandsFor};
-ghost use Rattle.schedule_cli.specs.declared.stop.Stop.TheVariants.{ReadFault};
-ghost use Rattle.schedule_cli.specs.Feeding.{HasAll, IsTaken};
-ghost use Rattle.schedule_cli.specs.Judging.{IsJudgementOf};
-ghost use Rattle.schedule_cli.specs.Answer.{IsAnswerTo, IsTellable};
+ghost use Rattle.scheduler.specs.declared.stop.Stop.TheVariants.{ReadFault};
+ghost use Rattle.scheduler.specs.Feeding.{HasAll, IsTaken};
+ghost use Rattle.scheduler.specs.Judging.{IsJudgementOf};
+ghost use Rattle.scheduler.specs.Answer.{IsAnswerTo, IsTellable};
 ghost use Rattle.plan_words.specs.Words.{IsCheck, project_name, report_name};
 
 use crate::answer::{Answer, Judgement, Outcome};

@@ -1,6 +1,6 @@
 //! What two runs have to do with each other.
 
-ghost use Rattle.schedule_cli.specs.Laws.{OwnReportLaw, SameTrialLaw};
+ghost use Rattle.scheduler.specs.Laws.{OwnReportLaw, SameTrialLaw};
 
 /// A report that `solve` prints with its log is accepted by `check`, unless a read or a write fails or memory is refused.
 pub fn own_report_accepted()

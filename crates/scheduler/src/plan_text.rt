@@ -3,7 +3,7 @@
 ghost use Rattle.std.specs.Prelude.{◌≡◌, ◌≤◌, ◌++◌, ◌∷◌, [], length, string_bytes, Some, None, IfOk, IfSome, OnOk};
 ghost use Rattle.proof_log.specs.Text.{text_of_lines, job_lines};
 ghost use Rattle.proof_log.specs.declared.line.ReportLine.TheVariants.{Duration, Job};
-ghost use Rattle.schedule_cli.specs.Answer.{text_of_plan};
+ghost use Rattle.scheduler.specs.Answer.{text_of_plan};
 
 use crate::planning::Plan;
 use project_net::Schedule;

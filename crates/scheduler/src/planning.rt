@@ -3,7 +3,7 @@
 ghost use Rattle.std.specs.Prelude.{◌≡◌, ◌≤◌, length, IfOk, IfSome};
 ghost use Rattle.rcpsp_model.specs.Schedule.{IsFeasible, end_of, entries};
 ghost use Rattle.plan_search.specs.Plans.{EndsNoLater};
-ghost use Rattle.schedule_cli.specs.Planning.{IsJustified, IsPlanFrom, IsPlanned, IsStart};
+ghost use Rattle.scheduler.specs.Planning.{IsJustified, IsPlanFrom, IsPlanned, IsStart};
 
 use justify_plans::justify;
 use plan_search::improve;
@@ -92,7 +92,7 @@ pub fn start_of(alloc: Global, project: &Project, tries: u32) -> Result<Option<S
 fn with_end(project: &Project, plan: Option<Schedule>) -> Option<Plan>
     requires feasible { IfSome plan (IsFeasible project.now) }
     requires soon { IfSome plan (λ s. end_of project.now (entries s) ≤ 1290000) }
-    ensures plan { result ≡ Rattle.schedule_cli.specs.Planning.with_end project.now plan }
+    ensures plan { result ≡ Rattle.scheduler.specs.Planning.with_end project.now plan }
     ensures jobs { IfSome result (λ p. length p.places ≤ 128) }
 {
     project.known();

@@ -1,6 +1,6 @@
 ghost use Rattle.std.specs.Prelude.{◌≡◌, ◌≤◌, ◌+◌, ◌++◌, [], length, take, IfOk, OnOk, IfSome, IsSome};
 ghost use Rattle.sched_base.specs.Outside.{text_under, Rose};
-ghost use Rattle.schedule_cli.specs.declared.stop.Stop.TheVariants.{ReadFault};
+ghost use Rattle.scheduler.specs.declared.stop.Stop.TheVariants.{ReadFault};
 ghost use Rattle.std.specs.Prelude.{Err};
 
 use crate::stop::Stop;

@@ -3,7 +3,7 @@
 ghost use Rattle.std.specs.Prelude.{◌≡◌, ◌≤◌, IfOk};
 ghost use Rattle.proof_log.specs.Report.{IsReport};
 ghost use Rattle.search_rounds.specs.Found.{report_of};
-ghost use Rattle.schedule_cli.specs.Solve.{with_log, IsFoundFromStart, IsSearched, IsSearchedTo};
+ghost use Rattle.scheduler.specs.Solve.{with_log, IsFoundFromStart, IsSearched, IsSearchedTo};
 
 use crate::planning::start_of;
 use log_truth::true_claim;

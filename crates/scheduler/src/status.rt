@@ -1,5 +1,5 @@
 ghost use Rattle.std.specs.Prelude.{◌≡◌, ◌↔◌, IsTrue, OnOk, OnErr};
-ghost use Rattle.schedule_cli.specs.Status.{status_number, IsTold};
+ghost use Rattle.scheduler.specs.Status.{status_number, IsTold};
 
 use sched_base::Failed;
 

@@ -12,7 +12,7 @@ pub enum Stop {
 
 impl From<AllocError> for Stop {
     ghost use Rattle.std.specs.Prelude.{◌≡◌};
-    ghost use Rattle.schedule_cli.specs.declared.stop.Stop.TheVariants.{NoMemory};
+    ghost use Rattle.scheduler.specs.declared.stop.Stop.TheVariants.{NoMemory};
 
     ghost from_gives = { λ _ stop. stop ≡ NoMemory };
 
@@ -23,7 +23,7 @@ impl From<AllocError> for Stop {
 
 impl From<Failed> for Stop {
     ghost use Rattle.std.specs.Prelude.{◌≡◌};
-    ghost use Rattle.schedule_cli.specs.declared.stop.Stop.TheVariants.{ReadFault};
+    ghost use Rattle.scheduler.specs.declared.stop.Stop.TheVariants.{ReadFault};
 
     ghost from_gives = { λ _ stop. stop ≡ ReadFault };
 
@@ -34,7 +34,7 @@ impl From<Failed> for Stop {
 
 impl From<NoMemory> for Stop {
     ghost use Rattle.std.specs.Prelude.{◌≡◌};
-    ghost use Rattle.schedule_cli.specs.declared.stop.Stop.TheVariants as stops;
+    ghost use Rattle.scheduler.specs.declared.stop.Stop.TheVariants as stops;
 
     ghost from_gives = { λ _ stop. stop ≡ stops.NoMemory };
 

@@ -1,7 +1,7 @@
 ghost use Rattle.std.specs.Prelude.{◌≡◌, ◌≤◌, ◌++◌, [], codes, decimal, string_bytes, IfOk, OnOk, Err};
 ghost use Rattle.sched_base.specs.Outside.{Gains, GainsFront, Rose};
-ghost use Rattle.schedule_cli.specs.Answer.{code_of, line, verdict_words, text_of_judgement, text_of_bound_judgement, size_lines, verdict_lines, text_of_trial, text_of, IsTellable};
-ghost use Rattle.schedule_cli.specs.declared.tell.Untold.TheVariants.{NoMemory, WriteFault};
+ghost use Rattle.scheduler.specs.Answer.{code_of, line, verdict_words, text_of_judgement, text_of_bound_judgement, size_lines, verdict_lines, text_of_trial, text_of, IsTellable};
+ghost use Rattle.scheduler.specs.declared.tell.Untold.TheVariants.{NoMemory, WriteFault};
 
 use crate::answer::{Answer, BoundJudgement, Judgement, Outcome, Trial};
 use crate::plan_text::plan_text;
@@ -23,7 +23,7 @@ pub enum Untold {
 
 impl From<AllocError> for Untold {
     ghost use Rattle.std.specs.Prelude.{◌≡◌};
-    ghost use Rattle.schedule_cli.specs.declared.tell.Untold.TheVariants.{NoMemory};
+    ghost use Rattle.scheduler.specs.declared.tell.Untold.TheVariants.{NoMemory};
 
     ghost from_gives = { λ _ why. why ≡ NoMemory };
 
@@ -34,7 +34,7 @@ impl From<AllocError> for Untold {
 
 impl From<Failed> for Untold {
     ghost use Rattle.std.specs.Prelude.{◌≡◌};
-    ghost use Rattle.schedule_cli.specs.declared.tell.Untold.TheVariants.{WriteFault};
+    ghost use Rattle.scheduler.specs.declared.tell.Untold.TheVariants.{WriteFault};
 
     ghost from_gives = { λ _ why. why ≡ WriteFault };
 

@@ -5,10 +5,10 @@ ghost use Rattle.sched_base.specs.Outside.{Rose};
 ghost use Rattle.rcpsp_model.specs.Project.{IsProject};
 ghost use Rattle.bound_checker.specs.Checker.{StandsFor};
 ghost use Rattle.plan_words.specs.Words.{IsVerify, project_name, bound_name};
-ghost use Rattle.schedule_cli.specs.declared.stop.Stop.TheVariants.{ReadFault};
-ghost use Rattle.schedule_cli.specs.Feeding.{HasAll, IsTaken};
-ghost use Rattle.schedule_cli.specs.Verifying.{IsBoundJudgementOf};
-ghost use Rattle.schedule_cli.specs.Answer.{IsAnswerTo, IsTellable};
+ghost use Rattle.scheduler.specs.declared.stop.Stop.TheVariants.{ReadFault};
+ghost use Rattle.scheduler.specs.Feeding.{HasAll, IsTaken};
+ghost use Rattle.scheduler.specs.Verifying.{IsBoundJudgementOf};
+ghost use Rattle.scheduler.specs.Answer.{IsAnswerTo, IsTellable};
 
 use crate::answer::{Answer, BoundJudgement, Outcome};
 use crate::reading::{piece_room, read_text};

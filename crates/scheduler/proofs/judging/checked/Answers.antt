@@ -1,9 +1,9 @@
 use Rattle.std.proofs.Common.{arith, inl, inr, sym, ap, subst, ◌∙◌, Err}
 use Rattle.psplib_layout.specs.Text.{Reads, IsFirstRefusal}
-use Rattle.schedule_cli.specs.declared.reading.TheConstants.{MOST_READ}
-use Rattle.schedule_cli.specs.Judging.{IsJudgementOf}
-use Rattle.schedule_cli.proofs.TextFronts.{front_named, told_outcome}
-use Rattle.schedule_cli.proofs.judging.checked.Goals as goal
+use Rattle.scheduler.specs.declared.reading.TheConstants.{MOST_READ}
+use Rattle.scheduler.specs.Judging.{IsJudgementOf}
+use Rattle.scheduler.proofs.TextFronts.{front_named, told_outcome}
+use Rattle.scheduler.proofs.judging.checked.Goals as goal
 
 pub returns-in-Ok-clause-answer : goal.returns-in-Ok-clause-answer
 returns-in-Ok-clause-answer g c words check project report = record {

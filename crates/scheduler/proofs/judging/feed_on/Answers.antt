@@ -1,10 +1,10 @@
 use Rattle.std.proofs.Common.{◌≤◌, length, sym, subst, arith}
 use Rattle.rcpsp_model.specs.Project.{IsProject}
 use Rattle.log_checker.specs.Checker.{StandsFor}
-use Rattle.schedule_cli.specs.declared.judging.TheConstants.{MOST_REPORT}
-use Rattle.schedule_cli.proofs.FedTexts.{takes_most}
-use Rattle.schedule_cli.proofs.FedReports.{most-stays}
-use Rattle.schedule_cli.proofs.judging.feed_on.Goals as goal
+use Rattle.scheduler.specs.declared.judging.TheConstants.{MOST_REPORT}
+use Rattle.scheduler.proofs.FedTexts.{takes_most}
+use Rattle.scheduler.proofs.FedReports.{most-stays}
+use Rattle.scheduler.proofs.judging.feed_on.Goals as goal
 
 pub returns-clause-all : goal.returns-clause-all
 returns-clause-all g c =

@@ -1,8 +1,8 @@
 use Rattle.std.proofs.Common.{◌≡◌, ◌≤◌, ◌-◌, length}
-use Rattle.schedule_cli.specs.declared.judging.TheConstants.{MOST_REPORT}
+use Rattle.scheduler.specs.declared.judging.TheConstants.{MOST_REPORT}
 use Rattle.log_checker.specs.Checker.{StandsFor}
-use Rattle.schedule_cli.specs.Feeding.{HasTaken}
-use Rattle.schedule_cli.proofs.judging.feed_on.Given as goal
+use Rattle.scheduler.specs.Feeding.{HasTaken}
+use Rattle.scheduler.proofs.judging.feed_on.Given as goal
 
 abbrev pub invariant-loop-taken : goal.invariant-loop-taken
 invariant-loop-taken g l = record {

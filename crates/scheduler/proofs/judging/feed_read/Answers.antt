@@ -1,8 +1,8 @@
 use Rattle.std.proofs.Common.{arith}
 use Rattle.log_checker.specs.Checker.{StandsFor}
 use Rattle.log_checker.proofs.FedBytes.{stands-refused}
-use Rattle.schedule_cli.proofs.FedTexts.{goes, stops}
-use Rattle.schedule_cli.proofs.judging.feed_read.Goals as goal
+use Rattle.scheduler.proofs.FedTexts.{goes, stops}
+use Rattle.scheduler.proofs.judging.feed_read.Goals as goal
 
 pub returns-in-Ok-clause-taken : goal.returns-in-Ok-clause-taken
 returns-in-Ok-clause-taken g c =

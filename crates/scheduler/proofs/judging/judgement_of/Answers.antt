@@ -1,9 +1,9 @@
 use Rattle.std.proofs.Common.{ap, subst, ◌∙◌, Err}
-use Rattle.schedule_cli.specs.declared.answer.Judgement.TheVariants as judgements
+use Rattle.scheduler.specs.declared.answer.Judgement.TheVariants as judgements
 use Rattle.log_checker.specs.Checker.{StandsFor}
-use Rattle.schedule_cli.specs.Feeding.{HasAll}
-use Rattle.schedule_cli.proofs.FedReports.{judged_all}
-use Rattle.schedule_cli.proofs.judging.judgement_of.Goals as goal
+use Rattle.scheduler.specs.Feeding.{HasAll}
+use Rattle.scheduler.proofs.FedReports.{judged_all}
+use Rattle.scheduler.proofs.judging.judgement_of.Goals as goal
 
 pub returns-in-Err-Report-clause-judged : goal.returns-in-Err-Report-clause-judged
 returns-in-Err-Report-clause-judged g c =

@@ -1,5 +1,5 @@
-use Rattle.schedule_cli.proofs.ReportsJudged.{own_report_law}
-use Rattle.schedule_cli.proofs.laws.own_report_accepted.Goals as goal
+use Rattle.scheduler.proofs.ReportsJudged.{own_report_law}
+use Rattle.scheduler.proofs.laws.own_report_accepted.Goals as goal
 
 pub returns : goal.returns
 returns c = own_report_law

@@ -1,5 +1,5 @@
-use Rattle.schedule_cli.proofs.TrialsTold.{same_trial_law}
-use Rattle.schedule_cli.proofs.laws.same_trial.Goals as goal
+use Rattle.scheduler.proofs.TrialsTold.{same_trial_law}
+use Rattle.scheduler.proofs.laws.same_trial.Goals as goal
 
 pub returns : goal.returns
 returns c = same_trial_law

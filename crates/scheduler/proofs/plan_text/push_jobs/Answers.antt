@@ -4,7 +4,7 @@ use Rattle.rcpsp_model.specs.declared.parts.Placing.{Placing}
 use Rattle.proof_log.specs.declared.line.ReportLine.TheVariants.{Job}
 use Rattle.proof_log.specs.Text.{job_lines}
 use Rattle.proof_log.proofs.WrittenParts.{Writes, part_written, all_written, jobs_from, next_job}
-use Rattle.schedule_cli.proofs.plan_text.push_jobs.Goals as goal
+use Rattle.scheduler.proofs.plan_text.push_jobs.Goals as goal
 
 pub loop-index-preserved : goal.loop-index-preserved
 loop-index-preserved c =

@@ -1,7 +1,7 @@
 use Rattle.std.proofs.Common.{◌≤◌, subst, IfSome}
 use Rattle.rcpsp_model.specs.Schedule.{IsFeasible, end_of, entries}
 use Rattle.justify_plans.proofs.Moved.{placed-self}
-use Rattle.schedule_cli.proofs.planning.with_end.Goals as goal
+use Rattle.scheduler.proofs.planning.with_end.Goals as goal
 
 pub end-duration-requires-clause-starts : goal.end-duration-requires-clause-starts
 end-duration-requires-clause-starts c =

@@ -1,5 +1,5 @@
 use Rattle.std.proofs.Common.{◌≡◌, ◌≤◌, ◌-◌, ◌++◌, length, IsSome}
-use Rattle.schedule_cli.proofs.reading.read_on.Given as goal
+use Rattle.scheduler.proofs.reading.read_on.Given as goal
 
 abbrev pub invariant-loop-text : goal.invariant-loop-text
 invariant-loop-text g l = record {

@@ -1,5 +1,5 @@
-use Rattle.schedule_cli.proofs.SearchedReports.{searched, told_text}
-use Rattle.schedule_cli.proofs.solving.report_on.Goals as goal
+use Rattle.scheduler.proofs.SearchedReports.{searched, told_text}
+use Rattle.scheduler.proofs.solving.report_on.Goals as goal
 
 pub returns-clause-report : goal.returns-clause-report
 returns-clause-report g c =

@@ -1,9 +1,9 @@
 use Rattle.std.proofs.Common.{ap, subst, ◌∙◌, Ok}
 use Rattle.rcpsp_model.specs.Project.{Project}
 use Rattle.bound_checker.specs.Checker.{StandsFor, IsJudgement}
-use Rattle.schedule_cli.specs.Feeding.{HasAll}
-use Rattle.schedule_cli.proofs.FedTexts.{text_told}
-use Rattle.schedule_cli.proofs.verifying.bound_judgement_of.Goals as goal
+use Rattle.scheduler.specs.Feeding.{HasAll}
+use Rattle.scheduler.proofs.FedTexts.{text_told}
+use Rattle.scheduler.proofs.verifying.bound_judgement_of.Goals as goal
 
 pub returns-clause-judged : goal.returns-clause-judged
 returns-clause-judged g c =

@@ -3,8 +3,8 @@ use Rattle.rcpsp_model.specs.Project.{IsProject}
 use Rattle.bound_checker.specs.declared.checker.BoundRefusal.{BoundRefusal}
 use Rattle.bound_checker.specs.declared.checker.TheConstants.{MOST_TEXT}
 use Rattle.bound_checker.specs.Checker.{StandsFor}
-use Rattle.schedule_cli.proofs.FedTexts.{takes_most}
-use Rattle.schedule_cli.proofs.verifying.feed_on.Goals as goal
+use Rattle.scheduler.proofs.FedTexts.{takes_most}
+use Rattle.scheduler.proofs.verifying.feed_on.Goals as goal
 
 pub returns-clause-all : goal.returns-clause-all
 returns-clause-all g c =

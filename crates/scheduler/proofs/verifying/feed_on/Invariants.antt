@@ -1,8 +1,8 @@
 use Rattle.std.proofs.Common.{◌≡◌, ◌+◌, ◌≤◌, ◌-◌, length}
 use Rattle.bound_checker.specs.declared.checker.TheConstants.{MOST_TEXT}
 use Rattle.bound_checker.specs.Checker.{StandsFor}
-use Rattle.schedule_cli.specs.Feeding.{HasTaken}
-use Rattle.schedule_cli.proofs.verifying.feed_on.Given as goal
+use Rattle.scheduler.specs.Feeding.{HasTaken}
+use Rattle.scheduler.proofs.verifying.feed_on.Given as goal
 
 abbrev pub invariant-loop-taken : goal.invariant-loop-taken
 invariant-loop-taken g l = record {

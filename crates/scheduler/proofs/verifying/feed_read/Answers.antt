@@ -1,8 +1,8 @@
 use Rattle.std.proofs.Common.{arith, sym, subst}
 use Rattle.rcpsp_model.specs.Project.{IsProject}
 use Rattle.bound_checker.specs.Checker.{StandsFor}
-use Rattle.schedule_cli.proofs.FedTexts.{goes, stops}
-use Rattle.schedule_cli.proofs.verifying.feed_read.Goals as goal
+use Rattle.scheduler.proofs.FedTexts.{goes, stops}
+use Rattle.scheduler.proofs.verifying.feed_read.Goals as goal
 
 pub returns-in-Ok-clause-taken : goal.returns-in-Ok-clause-taken
 returns-in-Ok-clause-taken g c =

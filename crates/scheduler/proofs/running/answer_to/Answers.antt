@@ -1,9 +1,9 @@
 use Rattle.std.proofs.Common.{arith, subst, map, string_bytes}
-use Rattle.schedule_cli.specs.declared.reading.TheConstants.{MOST_READ}
+use Rattle.scheduler.specs.declared.reading.TheConstants.{MOST_READ}
 use Rattle.plan_words.specs.Words.{IsCommand}
-use Rattle.schedule_cli.specs.Answer.{IsRequest, IsOutcomeOf}
-use Rattle.schedule_cli.proofs.TextFronts.{told_outcome}
-use Rattle.schedule_cli.proofs.run.answer_to.Goals as goal
+use Rattle.scheduler.specs.Answer.{IsRequest, IsOutcomeOf}
+use Rattle.scheduler.proofs.TextFronts.{told_outcome}
+use Rattle.scheduler.proofs.running.answer_to.Goals as goal
 
 pub returns-in_ok-solution_of-in-Ok-Solve-clause-answer : goal.returns-in_ok-solution_of-in-Ok-Solve-clause-answer
 returns-in_ok-solution_of-in-Ok-Solve-clause-answer g c =

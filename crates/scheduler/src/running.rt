@@ -1,14 +1,14 @@
 ghost use Rattle.std.specs.Prelude.{◌≡◌, ◌≤◌, ◌⊎◌, ◌↔◌, ℕ, List, Err, None, IsSome, IfOk, IfSome, true, [], map, string_bytes};
 ghost use Rattle.sched_base.specs.Outside.{Gains, GainsFront, Rose};
-ghost use Rattle.schedule_cli.specs.declared.answer.Answer.{Answer as Told};
-ghost use Rattle.schedule_cli.specs.declared.answer.Answer.TheVariants as answers;
-ghost use Rattle.schedule_cli.specs.declared.stop.Stop.TheVariants as stops;
+ghost use Rattle.scheduler.specs.declared.answer.Answer.{Answer as Told};
+ghost use Rattle.scheduler.specs.declared.answer.Answer.TheVariants as answers;
+ghost use Rattle.scheduler.specs.declared.stop.Stop.TheVariants as stops;
 ghost use Rattle.project_net.specs.Canonical.{canonical};
 ghost use Rattle.project_gen.specs.Made.{made};
 ghost use Rattle.plan_words.specs.Words.{bad_word, IsSolve, IsCheck, IsShow, IsPlan, IsBound, IsVerify, IsMake, IsTrial, IsOnProject, IsPrint, workers_in, nodes_in, tries_in, prints_log};
-ghost use Rattle.schedule_cli.specs.Solve.{IsSolution, IsNoLaterThanFirst, ExpandsNoTwins, HasAtMostFronts};
-ghost use Rattle.schedule_cli.specs.Status.{IsSolved, IsServed, IsTold, IsFaultless};
-ghost use Rattle.schedule_cli.specs.Answer.{IsRequest, IsOutcomeOf, IsAnswerTo, IsTellable, HasProject, NamesNoProject, Runs, WhereSolved, TellsAccepted, TellsPlan, TellsBound, Judges, Verifies, Tries, text_of};
+ghost use Rattle.scheduler.specs.Solve.{IsSolution, IsNoLaterThanFirst, ExpandsNoTwins, HasAtMostFronts};
+ghost use Rattle.scheduler.specs.Status.{IsSolved, IsServed, IsTold, IsFaultless};
+ghost use Rattle.scheduler.specs.Answer.{IsRequest, IsOutcomeOf, IsAnswerTo, IsTellable, HasProject, NamesNoProject, Runs, WhereSolved, TellsAccepted, TellsPlan, TellsBound, Judges, Verifies, Tries, text_of};
 
 use crate::answer::{Answer, Outcome, Trial};
 use crate::bounding::bound_for;

@@ -1,13 +1,13 @@
 use Rattle.std.proofs.Common.{◌≡◌, ◌∙◌, map, string_bytes}
-use Rattle.schedule_cli.specs.declared.status.Status.TheVariants.{NoMemory}
-use Rattle.schedule_cli.specs.Status.{IsFaultless}
-use Rattle.schedule_cli.proofs.StatusesTold.{told_bad_project, told_served, told_printed, told_refused, told_tried, told_complete, made_is_done}
-use Rattle.schedule_cli.proofs.ReportsTold.{tells_solution, tells_accepted, tells_no_later, tells_no_twins, tells_ends}
-use Rattle.schedule_cli.proofs.PlansTold.{tells_plan}
-use Rattle.schedule_cli.proofs.ReportsJudged.{judges}
-use Rattle.schedule_cli.proofs.BoundsTold.{tells_bound, verifies}
-use Rattle.schedule_cli.proofs.TrialsTold.{tries}
-use Rattle.schedule_cli.proofs.run.run.Goals as goal
+use Rattle.scheduler.specs.declared.status.Status.TheVariants.{NoMemory}
+use Rattle.scheduler.specs.Status.{IsFaultless}
+use Rattle.scheduler.proofs.StatusesTold.{told_bad_project, told_served, told_printed, told_refused, told_tried, told_complete, made_is_done}
+use Rattle.scheduler.proofs.ReportsTold.{tells_solution, tells_accepted, tells_no_later, tells_no_twins, tells_ends}
+use Rattle.scheduler.proofs.PlansTold.{tells_plan}
+use Rattle.scheduler.proofs.ReportsJudged.{judges}
+use Rattle.scheduler.proofs.BoundsTold.{tells_bound, verifies}
+use Rattle.scheduler.proofs.TrialsTold.{tries}
+use Rattle.scheduler.proofs.running.run.Goals as goal
 
 pub returns-in-Ok-tell-clause-bad_project : goal.returns-in-Ok-tell-clause-bad_project
 returns-in-Ok-tell-clause-bad_project g c told =
