@@ -1,14 +1,17 @@
+//! Bounds of the schedules that complete a front, and the resource of which too little is left.
+
 ghost use Rattle.precedence_tree.specs.Node.{StandsFor};
 
+use crate::nodes::walk;
 use plan_bounds::{budget_gap, lower, tail_bound, work_bound};
-use precedence_tree::{Node, node_of};
+use precedence_tree::Node;
 use project_net::Project;
 use std::alloc::Global;
 use std::process::Abort;
 use std::test::Fail;
 use worked_projects::{
     AFTER_A_BREAK, EntryRow, LATE_BREAK, NEEDS_DIFFER, NO_LENGTH, SHORT_OR_CHEAP, THREE_IN_TURN,
-    TWO_IN_TURN, WorkedProject, build, entries,
+    TWO_IN_TURN, WorkedProject, build,
 };
 
 /// A front of a project, with its bounds and its gap.
@@ -164,21 +167,27 @@ fn compare(rt: &impl Abort, project: &Project, node: &Node, case: &Case)
     assert_eq!(rt; budget_gap(project, node), case.gap, "{}", case.name);
 }
 
-/// Compares the bounds of a front with those of the case.
-fn compare_front(rt: &impl Abort, alloc: Global, case: &Case) -> Result<(), Fail> {
-    let project = build(alloc, &case.project)?;
-    let front = entries(alloc, case.front)?;
-    match node_of(alloc, &project, front.as_slice())? {
-        Some(node) => compare(rt, &project, &node, case),
-        None => assert!(rt; false, "{}", case.name),
-    }
+/// Compares the bounds of the front of a case, in its project.
+fn compare_front(
+    rt: &impl Abort,
+    alloc: Global,
+    project: &Project,
+    case: &Case,
+) -> Result<(), Fail> {
+    let node = walk(rt, alloc, project, case.front)?;
+    compare(rt, project, &node, case);
     Ok(())
+}
+
+fn compare_case(rt: &impl Abort, alloc: Global, case: &Case) -> Result<(), Fail> {
+    let project = build(alloc, &case.project)?;
+    compare_front(rt, alloc, &project, case)
 }
 
 #[test]
 fn bounds_of_fronts(rt: HostRuntime) -> Result<(), Fail> {
     for case in &CASES {
-        compare_front(&rt, rt.alloc(), case)?;
+        compare_case(&rt, rt.alloc(), case)?;
     }
     Ok(())
 }

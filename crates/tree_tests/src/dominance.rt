@@ -1,16 +1,19 @@
+//! Which front makes another needless, by records of fronts and by an index of them.
+
 ghost use Rattle.std.specs.Prelude.{All, IfOk};
 ghost use Rattle.precedence_tree.specs.Base.{IsBaseOf};
 ghost use Rattle.precedence_tree.specs.Node.{StandsFor};
 
+use crate::nodes::walk;
 use cutset_store::{CutRecord, Index, dominates};
-use precedence_tree::{Node, node_of};
+use precedence_tree::Node;
 use project_net::Project;
 use sched_base::NoMemory;
 use std::alloc::Global;
 use std::process::Abort;
 use std::test::Fail;
 use worked_projects::{
-    EntryRow, NEEDS_DIFFER, NO_LENGTH, TWINS, TWO_IN_TURN, WorkedProject, build, entries,
+    EntryRow, NEEDS_DIFFER, NO_LENGTH, TWINS, TWO_IN_TURN, WorkedProject, build,
 };
 
 /// Whether the first of two fronts of a project dominates the second.
@@ -20,17 +23,6 @@ struct PairRow {
     front: &'static [EntryRow],
     other: &'static [EntryRow],
     dominates: bool,
-}
-
-/// The node of a front.
-fn walk(rt: &impl Abort, alloc: Global, project: &Project, front: &[EntryRow]) -> Result<Node, Fail>
-    ensures { IfOk result (StandsFor project.now) }
-{
-    let front = entries(alloc, front)?;
-    match node_of(alloc, project, front.as_slice())? {
-        Some(node) => Ok(node),
-        None => panic!(rt; "no front"),
-    }
 }
 
 const PAIRS: [PairRow; 8] = [
@@ -100,14 +92,37 @@ const FOURTH_FIRST: &[EntryRow] = &[(1, 1, 0), (2, 1, 0), (3, 1, 0), (4, 1, 1), 
 
 const FIFTH_FIRST: &[EntryRow] = &[(1, 1, 0), (2, 1, 0), (3, 1, 0), (5, 1, 1), (4, 1, 3)];
 
-fn compare(rt: &impl Abort, alloc: Global, row: &PairRow) -> Result<(), Fail> {
-    let project = build(alloc, &row.project)?;
-    let front = walk(rt, alloc, &project, row.front)?;
-    let record = CutRecord::of(alloc, &project, &front)?;
-    let other = walk(rt, alloc, &project, row.other)?;
-    let found = dominates(&project, &record, &other);
+/// Whether a record of the one node makes the other needless.
+fn is_needless(
+    alloc: Global,
+    project: &Project,
+    node: &Node,
+    other: &Node,
+) -> Result<bool, NoMemory>
+    requires node { StandsFor project.now node.now }
+    requires other { StandsFor project.now other.now }
+{
+    let record = CutRecord::of(alloc, project, node)?;
+    Ok(dominates(project, &record, other))
+}
+
+/// Compares the fronts of a row, in its project.
+fn compare_fronts(
+    rt: &impl Abort,
+    alloc: Global,
+    project: &Project,
+    row: &PairRow,
+) -> Result<(), Fail> {
+    let front = walk(rt, alloc, project, row.front)?;
+    let other = walk(rt, alloc, project, row.other)?;
+    let found = is_needless(alloc, project, &front, &other)?;
     assert_eq!(rt; found, row.dominates, "{}", row.name);
     Ok(())
+}
+
+fn compare(rt: &impl Abort, alloc: Global, row: &PairRow) -> Result<(), Fail> {
+    let project = build(alloc, &row.project)?;
+    compare_fronts(rt, alloc, &project, row)
 }
 
 #[test]
@@ -137,13 +152,22 @@ fn tell_apart(
     Ok(())
 }
 
+fn walk_and_tell_apart(
+    rt: &impl Abort,
+    alloc: Global,
+    own: &Project,
+    other: &Project,
+) -> Result<(), Fail> {
+    let node = walk(rt, alloc, own, &[(3, 1, 0), (2, 1, 0), (1, 1, 0)])?;
+    tell_apart(rt, alloc, own, other, &node)?;
+    Ok(())
+}
+
 #[test]
 fn record_of_one_project_alone(rt: HostRuntime) -> Result<(), Fail> {
     let own = build(rt.alloc(), &NO_LENGTH)?;
     let other = build(rt.alloc(), &TWO_IN_TURN)?;
-    let node = walk(&rt, rt.alloc(), &own, &[(3, 1, 0), (2, 1, 0), (1, 1, 0)])?;
-    tell_apart(&rt, rt.alloc(), &own, &other, &node)?;
-    Ok(())
+    walk_and_tell_apart(&rt, rt.alloc(), &own, &other)
 }
 
 /// The node is found in the index, or else its record is added; gives the place of the record that dominates.
@@ -168,26 +192,50 @@ fn find_or_add(
     Ok(None)
 }
 
-#[test]
-fn found_in_an_index(rt: HostRuntime) -> Result<(), Fail> {
-    let project = build(rt.alloc(), &TWINS)?;
-    let first = walk(&rt, rt.alloc(), &project, THIRD_FIRST)?;
-    let second = walk(&rt, rt.alloc(), &project, SECOND_FIRST)?;
-    let mut index = Index::new(rt.alloc(), &project);
-    let none = find_or_add(&rt, rt.alloc(), &project, &mut index, &first)?;
-    let one = find_or_add(&rt, rt.alloc(), &project, &mut index, &second)?;
+/// The first node is added, and then the second one is found.
+fn find_in_turn(
+    rt: &impl Abort,
+    alloc: Global,
+    project: &Project,
+    first: &Node,
+    second: &Node,
+) -> Result<(), NoMemory>
+    requires first { StandsFor project.now first.now }
+    requires second { StandsFor project.now second.now }
+{
+    let mut index = Index::new(alloc, project);
+    let none = find_or_add(rt, alloc, project, &mut index, first)?;
+    let one = find_or_add(rt, alloc, project, &mut index, second)?;
     assert_eq!(rt; (none, one), (None, Some(0)));
     Ok(())
 }
 
-/// Both are shared by the workers of a round.
+fn find_twins(rt: &impl Abort, alloc: Global, project: &Project) -> Result<(), Fail> {
+    let first = walk(rt, alloc, project, THIRD_FIRST)?;
+    let second = walk(rt, alloc, project, SECOND_FIRST)?;
+    find_in_turn(rt, alloc, project, &first, &second)?;
+    Ok(())
+}
+
+#[test]
+fn found_in_an_index(rt: HostRuntime) -> Result<(), Fail> {
+    let project = build(rt.alloc(), &TWINS)?;
+    find_twins(&rt, rt.alloc(), &project)
+}
+
+/// That threads may share the value.
 fn is_shared<T: Sync>(_value: &T) {}
+
+/// Records and indexes are shared by the workers of a round.
+fn share(alloc: Global, project: &Project) -> Result<(), Fail> {
+    let record = CutRecord::of(alloc, project, &Node::root())?;
+    is_shared(&record);
+    is_shared(&Index::new(alloc, project));
+    Ok(())
+}
 
 #[test]
 fn shared(rt: HostRuntime) -> Result<(), Fail> {
     let project = build(rt.alloc(), &TWINS)?;
-    let record = CutRecord::of(rt.alloc(), &project, &Node::root())?;
-    is_shared(&record);
-    is_shared(&Index::new(rt.alloc(), &project));
-    Ok(())
+    share(rt.alloc(), &project)
 }

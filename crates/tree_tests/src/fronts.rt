@@ -1,19 +1,21 @@
-ghost use Rattle.std.specs.Prelude.{IfOk};
+//! The eligible jobs and the children of fronts, and what a node keeps.
+
 ghost use Rattle.precedence_tree.specs.Node.{StandsFor};
 
+use crate::nodes::walk;
 use precedence_tree::{
     Child, Children, Entry, Node, Shut, child, children, children_of, eligible, expand, follow,
-    is_leaf, node_of, schedule,
+    is_leaf, schedule,
 };
 use project_net::{Project, Schedule};
 use rcpsp_model::Placing;
-use sched_base::{Job, JobSet};
+use sched_base::{Job, JobSet, NoMemory};
 use std::alloc::Global;
 use std::process::Abort;
 use std::test::Fail;
 use worked_projects::{
     AFTER_A_BREAK, ASKS_TOO_MUCH, BUDGETS_ALONE, EntryRow, LATE_BREAK, LONGER_MODE, NO_LENGTH,
-    SHORT_OR_CHEAP, TWO_IN_TURN, WorkedProject, build, entries,
+    SHORT_OR_CHEAP, TWO_IN_TURN, WorkedProject, build,
 };
 
 /// A job in a mode: placed at a start, or shut.
@@ -30,17 +32,6 @@ struct Case {
     front: &'static [EntryRow],
     eligible: &'static [u8],
     children: &'static [Line],
-}
-
-/// The node of a front.
-fn walk(rt: &impl Abort, alloc: Global, project: &Project, front: &[EntryRow]) -> Result<Node, Fail>
-    ensures { IfOk result (StandsFor project.now) }
-{
-    let front = entries(alloc, front)?;
-    match node_of(alloc, project, front.as_slice())? {
-        Some(node) => Ok(node),
-        None => panic!(rt; "no front"),
-    }
 }
 
 /// Whether the set has these jobs and no others.
@@ -169,54 +160,101 @@ const CASES: [Case; 10] = [
     },
 ];
 
-/// Compares a front's eligible jobs and its children with those of the case.
-fn compare(rt: &impl Abort, alloc: Global, case: &Case) -> Result<(), Fail> {
-    let project = build(alloc, &case.project)?;
-    let node = walk(rt, alloc, &project, case.front)?;
-    let jobs = eligible(&project, &node);
+/// Whether the node has these children.
+fn bears(alloc: Global, project: &Project, node: &Node, lines: &[Line]) -> Result<bool, NoMemory>
+    requires { StandsFor project.now node.now }
+{
+    let expansion = expand(alloc, project, node)?;
+    let all = children_of(alloc, project, &expansion)?;
+    Ok(are_lines(&all, lines))
+}
+
+/// Compares the eligible jobs and the children of the front of a case, in its project.
+fn compare_front(
+    rt: &impl Abort,
+    alloc: Global,
+    project: &Project,
+    case: &Case,
+) -> Result<(), Fail> {
+    let node = walk(rt, alloc, project, case.front)?;
+    let jobs = eligible(project, &node);
     assert!(rt; is_set(jobs, case.eligible), "{}", case.name);
-    let expansion = expand(alloc, &project, &node)?;
-    let all = children_of(alloc, &project, &expansion)?;
-    assert!(rt; are_lines(&all, case.children), "{}", case.name);
+    let has_children = bears(alloc, project, &node, case.children)?;
+    assert!(rt; has_children, "{}", case.name);
     Ok(())
+}
+
+fn compare_case(rt: &impl Abort, alloc: Global, case: &Case) -> Result<(), Fail> {
+    let project = build(alloc, &case.project)?;
+    compare_front(rt, alloc, &project, case)
 }
 
 #[test]
 fn children_of_fronts(rt: HostRuntime) -> Result<(), Fail> {
     for case in &CASES {
-        compare(&rt, rt.alloc(), case)?;
+        compare_case(&rt, rt.alloc(), case)?;
     }
+    Ok(())
+}
+
+/// Job 1 of the late break, after the break.
+const AFTER_THE_BREAK: Line = Line::Placed(1, 1, 3);
+
+/// The children of the root, without an expansion.
+fn compare_children(rt: &impl Abort, alloc: Global, project: &Project) -> Result<(), NoMemory> {
+    let all = children(alloc, project, &Node::root())?;
+    assert!(rt; are_lines(&all, &[AFTER_THE_BREAK]));
+    Ok(())
+}
+
+/// One child of the root.
+fn compare_child(rt: &impl Abort, alloc: Global, project: &Project) -> Result<(), NoMemory> {
+    let root = Node::root();
+    assert_eq!(rt; project.jobs(), 1);
+    assert!(rt; project.has_mode(1, 1));
+    assert!(rt; eligible(project, &root).has(Job(1)));
+    let one = child(alloc, project, &root, 1, 1)?;
+    assert!(rt; is_line(&one, AFTER_THE_BREAK));
+    Ok(())
+}
+
+/// No node follows where the job starts too early.
+fn follow_early(rt: &impl Abort, alloc: Global, project: &Project) -> Result<(), NoMemory> {
+    let early = Entry {
+        job: 1,
+        mode: 1,
+        start: 0,
+    };
+    let next = follow(alloc, project, &Node::root(), early)?;
+    assert!(rt; next.is_none());
+    Ok(())
+}
+
+fn compare_ways(rt: &impl Abort, alloc: Global, project: &Project) -> Result<(), Fail> {
+    compare_children(rt, alloc, project)?;
+    compare_child(rt, alloc, project)?;
+    follow_early(rt, alloc, project)?;
     Ok(())
 }
 
 #[test]
 fn other_ways_to_a_child(rt: HostRuntime) -> Result<(), Fail> {
     let project = build(rt.alloc(), &LATE_BREAK)?;
-    let root = Node::root();
-    let all = children(rt.alloc(), &project, &root)?;
-    assert!(rt; are_lines(&all, &[Line::Placed(1, 1, 3)]));
-    assert_eq!(rt; project.jobs(), 1);
-    assert!(rt; project.has_mode(1, 1));
-    assert!(rt; eligible(&project, &root).has(Job(1)));
-    let one = child(rt.alloc(), &project, &root, 1, 1)?;
-    assert!(rt; is_line(&one, Line::Placed(1, 1, 3)));
-    let early = Entry {
-        job: 1,
-        mode: 1,
-        start: 0,
-    };
-    assert!(rt; follow(rt.alloc(), &project, &root, early)?.is_none());
+    compare_ways(&rt, rt.alloc(), &project)
+}
+
+fn compare_copy(rt: &impl Abort, alloc: Global, project: &Project) -> Result<(), Fail> {
+    let node = walk(rt, alloc, project, FOUR_PLACED)?;
+    let copy = node.try_copy()?;
+    assert_eq!(rt; (copy.depth(), copy.last(), copy.end()), (4, 0, 3));
+    assert_eq!(rt; (node.depth(), node.last(), node.end()), (4, 0, 3));
     Ok(())
 }
 
 #[test]
 fn a_copy_is_apart(rt: HostRuntime) -> Result<(), Fail> {
     let project = build(rt.alloc(), &NO_LENGTH)?;
-    let node = walk(&rt, rt.alloc(), &project, FOUR_PLACED)?;
-    let copy = node.try_copy()?;
-    assert_eq!(rt; (copy.depth(), copy.last(), copy.end()), (4, 0, 3));
-    assert_eq!(rt; (node.depth(), node.last(), node.end()), (4, 0, 3));
-    Ok(())
+    compare_copy(&rt, rt.alloc(), &project)
 }
 
 /// Whether the schedule gives the jobs their first modes and these starts.
@@ -236,30 +274,39 @@ fn starts_at(plan: &Schedule, starts: &[u32]) -> bool {
     true
 }
 
-#[test]
-fn schedule_of_a_leaf(rt: HostRuntime) -> Result<(), Fail> {
-    let project = build(rt.alloc(), &NO_LENGTH)?;
-    let leaf = walk(&rt, rt.alloc(), &project, ALL_PLACED)?;
-    assert!(rt; is_leaf(&project, &leaf));
-    let plan = schedule(rt.alloc(), &project, &leaf)?;
+fn compare_schedule(rt: &impl Abort, alloc: Global, project: &Project) -> Result<(), Fail> {
+    let leaf = walk(rt, alloc, project, ALL_PLACED)?;
+    assert!(rt; is_leaf(project, &leaf));
+    let plan = schedule(alloc, project, &leaf)?;
     assert!(rt; starts_at(&plan, &[0, 0, 0, 0, 3]));
     Ok(())
 }
 
 #[test]
-fn what_a_node_keeps(rt: HostRuntime) -> Result<(), Fail> {
-    let project = build(rt.alloc(), &SHORT_OR_CHEAP)?;
-    let node = walk(&rt, rt.alloc(), &project, SHORT_PLACED)?;
+fn schedule_of_a_leaf(rt: HostRuntime) -> Result<(), Fail> {
+    let project = build(rt.alloc(), &NO_LENGTH)?;
+    compare_schedule(&rt, rt.alloc(), &project)
+}
+
+/// What the node of two placed jobs, the second in the short mode, keeps.
+fn compare_kept(rt: &impl Abort, alloc: Global, project: &Project) -> Result<(), Fail> {
+    let node = walk(rt, alloc, project, SHORT_PLACED)?;
     let counts = (
         project.jobs(),
         project.renewables(),
         project.nonrenewables(),
     );
     assert_eq!(rt; counts, (4, 1, 1));
-    assert_eq!(rt; node.used(&project, 1), 3);
-    assert_eq!(rt; node.rest_need(&project, 1), 1);
-    assert_eq!(rt; node.rest_work(&project, 1), 2);
+    assert_eq!(rt; node.used(project, 1), 3);
+    assert_eq!(rt; node.rest_need(project, 1), 1);
+    assert_eq!(rt; node.rest_work(project, 1), 2);
     assert!(rt; node.newest_active().is_some());
-    assert_eq!(rt; node.older_active(&project).len(), 0);
+    assert_eq!(rt; node.older_active(project).len(), 0);
     Ok(())
+}
+
+#[test]
+fn what_a_node_keeps(rt: HostRuntime) -> Result<(), Fail> {
+    let project = build(rt.alloc(), &SHORT_OR_CHEAP)?;
+    compare_kept(&rt, rt.alloc(), &project)
 }

@@ -7,3 +7,5 @@ mod bounds;
 mod dominance;
 #[cfg(test)]
 mod fronts;
+#[cfg(test)]
+mod nodes;
