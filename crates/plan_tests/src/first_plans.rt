@@ -1,5 +1,10 @@
+//! The first plans of worked projects.
+
+use project_net::{Project, Schedule};
+use sched_base::NoMemory;
 use serial_scheme::first_plan;
-use project_net::Schedule;
+use std::alloc::Global;
+use std::process::Abort;
 use std::test::Fail;
 use worked_projects::{
     ASKS_TOO_MUCH, BUDGETS_ALONE, EIGHTEEN_JOBS, LONGER_MODE, NO_LENGTH, ONE_LONG_JOB,
@@ -100,18 +105,33 @@ const CASES: [Case; 9] = [
     },
 ];
 
+/// Compares the first plan of the project with that of the case.
+fn compare_plan(
+    rt: &impl Abort,
+    alloc: Global,
+    project: &Project,
+    case: &Case,
+) -> Result<(), NoMemory> {
+    let plan = first_plan(alloc, project)?;
+    match (&plan, case.plan) {
+        (None, None) => {}
+        (Some(schedule), Some(placings)) => {
+            assert!(rt; is_as(schedule, placings), "{}", case.name);
+        }
+        _ => assert!(rt; false, "{}", case.name),
+    }
+    Ok(())
+}
+
+fn compare(rt: &impl Abort, alloc: Global, case: &Case) -> Result<(), Fail> {
+    let project = build(alloc, &case.project)?;
+    Ok(compare_plan(rt, alloc, &project, case)?)
+}
+
 #[test]
 fn first_plans(rt: HostRuntime) -> Result<(), Fail> {
     for case in &CASES {
-        let project = build(rt.alloc(), &case.project)?;
-        let plan = first_plan(rt.alloc(), &project)?;
-        match (&plan, case.plan) {
-            (None, None) => {}
-            (Some(schedule), Some(placings)) => {
-                assert!(rt; is_as(schedule, placings), "{}", case.name);
-            }
-            _ => assert!(rt; false, "{}", case.name),
-        }
+        compare(&rt, rt.alloc(), case)?;
     }
     Ok(())
 }

@@ -1,10 +1,9 @@
-ghost use Rattle.std.specs.Prelude.{◌≤◌, ◌↔◌, IsTrue, IfOk, All};
-ghost use Rattle.rcpsp_model.specs.Schedule.{IsFeasible, end_of, entries};
+//! Plans after a pass back, after the pass forth that follows, and after as many as make them better.
 
+use crate::plans::plan_of;
 use justify_plans::{backward, forward, justify};
 use project_net::{CalRow, Project, Schedule};
-use rcpsp_model::Placing;
-use sched_base::{List, NoMemory};
+use sched_base::NoMemory;
 use std::alloc::Global;
 use std::process::Abort;
 use std::test::Fail;
@@ -118,38 +117,6 @@ const CASES: [Case; 6] = [
     },
 ];
 
-fn are_early(places: &[Placing]) -> bool
-    ensures { IsTrue result ↔ All (λ p. p.start ≤ 999999999) places.now }
-{
-    places.iter().all(|place| place.start <= 999_999_999)
-}
-
-/// The schedule of the first modes at these starts, which is feasible.
-fn plan_of(
-    rt: &impl Abort,
-    alloc: Global,
-    project: &Project,
-    starts: &[u32],
-) -> Result<Schedule, NoMemory>
-    ensures feasible { IfOk result (IsFeasible project.now) }
-    ensures end { IfOk result (λ s. end_of project.now (entries s) ≤ 1290000) }
-{
-    let mut places = Vec::new(alloc);
-    for start in starts {
-        places.push(Placing {
-            mode: 1,
-            start: *start,
-        })?;
-    }
-    assert!(rt; are_early(places.as_slice()));
-    let schedule = Schedule::new(List::from_vec(places));
-    assert_eq!(rt; schedule.len(), project.jobs() as usize);
-    assert!(rt; project.has_modes_of(&schedule));
-    assert!(rt; project.is_feasible(&schedule));
-    assert!(rt; project.end(&schedule) <= 1_290_000);
-    Ok(schedule)
-}
-
 /// Whether the jobs start then, in their first modes.
 fn is_as(schedule: &Schedule, starts: &[u32]) -> bool {
     if schedule.len() != starts.len() || starts.len() > 128 {
@@ -164,26 +131,56 @@ fn is_as(schedule: &Schedule, starts: &[u32]) -> bool {
     true
 }
 
+/// Compares the plan after each pass with that of the case.
+fn compare_passes(
+    rt: &impl Abort,
+    alloc: Global,
+    project: &Project,
+    case: &Case,
+) -> Result<(), NoMemory> {
+    let plan = plan_of(rt, alloc, project, case.plan)?;
+    let late = backward(alloc, project, &plan)?;
+    assert!(rt; is_as(&late, case.late), "{}", case.name);
+    let early = forward(alloc, project, &late)?;
+    assert!(rt; is_as(&early, case.early), "{}", case.name);
+    Ok(())
+}
+
+fn pass(rt: &impl Abort, alloc: Global, case: &Case) -> Result<(), Fail> {
+    let project = build(alloc, &case.project)?;
+    Ok(compare_passes(rt, alloc, &project, case)?)
+}
+
 #[test]
 fn passes(rt: HostRuntime) -> Result<(), Fail> {
     for case in &CASES {
-        let project = build(rt.alloc(), &case.project)?;
-        let plan = plan_of(&rt, rt.alloc(), &project, case.plan)?;
-        let late = backward(rt.alloc(), &project, &plan)?;
-        assert!(rt; is_as(&late, case.late), "{}", case.name);
-        let early = forward(rt.alloc(), &project, &late)?;
-        assert!(rt; is_as(&early, case.early), "{}", case.name);
+        pass(&rt, rt.alloc(), case)?;
     }
     Ok(())
+}
+
+/// Compares the justified plan with that of the case.
+fn compare_justified(
+    rt: &impl Abort,
+    alloc: Global,
+    project: &Project,
+    case: &Case,
+) -> Result<(), NoMemory> {
+    let plan = plan_of(rt, alloc, project, case.plan)?;
+    let justified = justify(alloc, project, &plan)?;
+    assert!(rt; is_as(&justified, case.justified), "{}", case.name);
+    Ok(())
+}
+
+fn justify_case(rt: &impl Abort, alloc: Global, case: &Case) -> Result<(), Fail> {
+    let project = build(alloc, &case.project)?;
+    Ok(compare_justified(rt, alloc, &project, case)?)
 }
 
 #[test]
 fn justified_plans(rt: HostRuntime) -> Result<(), Fail> {
     for case in &CASES {
-        let project = build(rt.alloc(), &case.project)?;
-        let plan = plan_of(&rt, rt.alloc(), &project, case.plan)?;
-        let justified = justify(rt.alloc(), &project, &plan)?;
-        assert!(rt; is_as(&justified, case.justified), "{}", case.name);
+        justify_case(&rt, rt.alloc(), case)?;
     }
     Ok(())
 }

@@ -6,6 +6,8 @@ mod first_plans;
 #[cfg(test)]
 mod justified;
 #[cfg(test)]
+mod plans;
+#[cfg(test)]
 mod tries;
 #[cfg(test)]
 mod usage;

@@ -1,10 +1,12 @@
-ghost use Rattle.std.specs.Prelude.{◌≤◌, ◌↔◌, IsTrue, IfOk, IfSome, All};
+//! Plans that a search by tries finds, from a plan that is given or from none.
+
+ghost use Rattle.std.specs.Prelude.{◌≤◌, IfOk, IfSome};
 ghost use Rattle.rcpsp_model.specs.Schedule.{IsFeasible, end_of, entries};
 
+use crate::plans::plan_of;
 use plan_search::improve;
 use project_net::{Project, Schedule};
-use rcpsp_model::Placing;
-use sched_base::{List, NoMemory};
+use sched_base::NoMemory;
 use std::alloc::Global;
 use std::process::Abort;
 use std::test::Fail;
@@ -61,38 +63,6 @@ const CASES: [Case; 6] = [
     },
 ];
 
-fn are_early(places: &[Placing]) -> bool
-    ensures { IsTrue result ↔ All (λ p. p.start ≤ 999999999) places.now }
-{
-    places.iter().all(|place| place.start <= 999_999_999)
-}
-
-/// The schedule of the first modes at these starts, which is feasible.
-fn plan_of(
-    rt: &impl Abort,
-    alloc: Global,
-    project: &Project,
-    starts: &[u32],
-) -> Result<Schedule, NoMemory>
-    ensures feasible { IfOk result (IsFeasible project.now) }
-    ensures end { IfOk result (λ s. end_of project.now (entries s) ≤ 1290000) }
-{
-    let mut places = Vec::new(alloc);
-    for start in starts {
-        places.push(Placing {
-            mode: 1,
-            start: *start,
-        })?;
-    }
-    assert!(rt; are_early(places.as_slice()));
-    let schedule = Schedule::new(List::from_vec(places));
-    assert_eq!(rt; schedule.len(), project.jobs() as usize);
-    assert!(rt; project.has_modes_of(&schedule));
-    assert!(rt; project.is_feasible(&schedule));
-    assert!(rt; project.end(&schedule) <= 1_290_000);
-    Ok(schedule)
-}
-
 /// The plan that is given, if one is.
 fn given_plan(
     rt: &impl Abort,
@@ -134,16 +104,54 @@ fn are_same(first: &Schedule, second: &Schedule) -> bool {
     true
 }
 
+/// Where the last job starts in a plan from a hundred tries.
+fn found_end(
+    alloc: Global,
+    project: &Project,
+    given: Option<Schedule>,
+) -> Result<Option<u32>, NoMemory>
+    requires feasible { IfSome given (IsFeasible project.now) }
+    requires end { IfSome given (λ s. end_of project.now (entries s) ≤ 1290000) }
+{
+    match improve(alloc, project, given, 100)? {
+        Some(plan) => Ok(last_start(&plan)),
+        None => Ok(None),
+    }
+}
+
+/// Compares the end that is found with the least of the case.
+fn compare_end(
+    rt: &impl Abort,
+    alloc: Global,
+    project: &Project,
+    case: &Case,
+) -> Result<(), NoMemory> {
+    let given = given_plan(rt, alloc, project, case.given)?;
+    let found = found_end(alloc, project, given)?;
+    assert_eq!(rt; found, case.least, "{}", case.name);
+    Ok(())
+}
+
+fn compare(rt: &impl Abort, alloc: Global, case: &Case) -> Result<(), Fail> {
+    let project = build(alloc, &case.project)?;
+    Ok(compare_end(rt, alloc, &project, case)?)
+}
+
 #[test]
 fn worked_plans(rt: HostRuntime) -> Result<(), Fail> {
     for case in &CASES {
-        let project = build(rt.alloc(), &case.project)?;
-        let given = given_plan(&rt, rt.alloc(), &project, case.given)?;
-        let found = match improve(rt.alloc(), &project, given, 100)? {
-            Some(plan) => last_start(&plan),
-            None => None,
-        };
-        assert_eq!(rt; found, case.least, "{}", case.name);
+        compare(&rt, rt.alloc(), case)?;
+    }
+    Ok(())
+}
+
+/// The same tries find the same plan.
+fn compare_again(rt: &impl Abort, alloc: Global, project: &Project) -> Result<(), NoMemory> {
+    let first = improve(alloc, project, None, 100)?;
+    let second = improve(alloc, project, None, 100)?;
+    match (&first, &second) {
+        (Some(first), Some(second)) => assert!(rt; are_same(first, second)),
+        _ => assert!(rt; false),
     }
     Ok(())
 }
@@ -151,11 +159,5 @@ fn worked_plans(rt: HostRuntime) -> Result<(), Fail> {
 #[test]
 fn same_plan_again(rt: HostRuntime) -> Result<(), Fail> {
     let project = build(rt.alloc(), &EIGHTEEN_JOBS_TIGHT)?;
-    let first = improve(rt.alloc(), &project, None, 100)?;
-    let second = improve(rt.alloc(), &project, None, 100)?;
-    match (&first, &second) {
-        (Some(first), Some(second)) => assert!(rt; are_same(first, second)),
-        _ => assert!(rt; false),
-    }
-    Ok(())
+    Ok(compare_again(&rt, rt.alloc(), &project)?)
 }

@@ -1,44 +1,16 @@
+//! What placed jobs take of each resource in each period, and where a job fits beside them.
+
 ghost use Rattle.std.specs.Prelude.{◌≤◌, All};
 ghost use Rattle.std.specs.Bool.{OnTrue};
 ghost use Rattle.profiles.specs.Placed.{IsProfileOf};
 
 use profiles::{Entry, Profile};
-use project_net::{Draft, DraftJob, Project};
-use rcpsp_model::Mode;
-use sched_base::List;
+use project_net::Project;
+use sched_base::NoMemory;
 use std::alloc::Global;
 use std::process::Abort;
 use std::test::Fail;
-use worked_projects::{AFTER_A_BREAK, LATE_BREAK, build};
-
-/// A project of jobs without an order, each with one mode: its duration, and its request of either resource.
-fn project_of(
-    alloc: Global,
-    jobs: &[(u32, [u32; 2])],
-    capacities: [u32; 2],
-) -> Result<Project, Fail> {
-    let mut all = Vec::new(alloc);
-    for (duration, requests) in jobs {
-        let mode = Mode {
-            duration: *duration,
-            requests: List::from_vec(requests.to_vec(alloc)?),
-            needs: List::new(alloc),
-        };
-        all.push(DraftJob {
-            modes: List::from_vec(vec![in alloc; mode]?),
-            successors: List::new(alloc),
-        })?;
-    }
-    Ok(Project::build(
-        alloc,
-        Draft {
-            jobs: List::from_vec(all),
-            capacities: List::from_vec(capacities.to_vec(alloc)?),
-            budgets: List::new(alloc),
-            calendar: List::new(alloc),
-        },
-    )?)
-}
+use worked_projects::{AFTER_A_BREAK, DraftRow, LATE_BREAK, WorkedProject, build};
 
 /// The earliest start of a job of one mode from the floor on.
 fn earliest_from(
@@ -106,27 +78,32 @@ fn place_in_turn(rt: &impl Abort, project: &Project, profile: &mut Profile) -> u
     last
 }
 
-/// Durations and requests of eighteen jobs.
-const JOBS: [(u32, [u32; 2]); 18] = [
-    (0, [0, 0]),
-    (3, [4, 2]),
-    (4, [3, 3]),
-    (2, [2, 4]),
-    (4, [4, 0]),
-    (2, [3, 2]),
-    (3, [0, 4]),
-    (5, [2, 3]),
-    (3, [3, 3]),
-    (4, [4, 0]),
-    (5, [5, 2]),
-    (3, [2, 3]),
-    (4, [3, 2]),
-    (2, [2, 2]),
-    (6, [6, 1]),
-    (3, [3, 4]),
-    (4, [2, 3]),
-    (0, [0, 0]),
-];
+/// Eighteen jobs in no order, each in one mode.
+const EIGHTEEN: WorkedProject = WorkedProject {
+    jobs: &[
+        (&[(0, &[0, 0], &[])], &[]),
+        (&[(3, &[4, 2], &[])], &[]),
+        (&[(4, &[3, 3], &[])], &[]),
+        (&[(2, &[2, 4], &[])], &[]),
+        (&[(4, &[4, 0], &[])], &[]),
+        (&[(2, &[3, 2], &[])], &[]),
+        (&[(3, &[0, 4], &[])], &[]),
+        (&[(5, &[2, 3], &[])], &[]),
+        (&[(3, &[3, 3], &[])], &[]),
+        (&[(4, &[4, 0], &[])], &[]),
+        (&[(5, &[5, 2], &[])], &[]),
+        (&[(3, &[2, 3], &[])], &[]),
+        (&[(4, &[3, 2], &[])], &[]),
+        (&[(2, &[2, 2], &[])], &[]),
+        (&[(6, &[6, 1], &[])], &[]),
+        (&[(3, &[3, 4], &[])], &[]),
+        (&[(4, &[2, 3], &[])], &[]),
+        (&[(0, &[0, 0], &[])], &[]),
+    ],
+    capacities: &[14, 10],
+    budgets: &[],
+    calendar: &[],
+};
 
 /// Their starts in a plan.
 const STARTS: [(u8, u32); 18] = [
@@ -188,107 +165,188 @@ fn place_all(rt: &impl Abort, project: &Project, profile: &mut Profile)
     }
 }
 
-#[test]
-fn usage_of_a_plan(rt: HostRuntime) -> Result<(), Fail> {
-    let project = project_of(rt.alloc(), &JOBS, [14, 10])?;
-    let mut profile = Profile::empty(rt.alloc(), &project);
-    place_all(&rt, &project, &mut profile);
-    assert_eq!(rt; profile.entries().len(), 18);
+/// Compares what the plan takes.
+fn compare_usage(rt: &impl Abort, project: &Project, profile: &Profile)
+    requires { IsProfileOf project.now profile.now }
+{
     assert_eq!(rt; project.renewables(), 2);
     for (period, first, second) in USAGE {
+        assert_eq!(rt; profile.usage(project, 1, period), first, "period {period}");
         assert_eq!(rt;
-            profile.usage(&project, 1, period),
-            first,
-            "period {period}"
-        );
-        assert_eq!(rt;
-            profile.usage(&project, 2, period),
+            profile.usage(project, 2, period),
             second,
             "period {period}"
         );
     }
-    Ok(())
+}
+
+fn place_and_compare(rt: &impl Abort, alloc: Global, project: &Project) {
+    let mut profile = Profile::empty(alloc, project);
+    place_all(rt, project, &mut profile);
+    assert_eq!(rt; profile.entries().len(), 18);
+    compare_usage(rt, project, &profile);
 }
 
 #[test]
-fn starts_beside_a_full_period(rt: HostRuntime) -> Result<(), Fail> {
-    // Job 1 fills period 1. Job 4 takes no time, and job 5 asks for more than there is.
-    let jobs = [
-        (1, [2, 0]),
-        (1, [1, 0]),
-        (2, [1, 0]),
-        (0, [2, 1]),
-        (1, [3, 0]),
-    ];
-    let project = project_of(rt.alloc(), &jobs, [2, 0])?;
-    let mut profile = Profile::empty(rt.alloc(), &project);
-    place_at(&rt, &project, &mut profile, 1, 1);
-    let cases = [
-        (2, 0, Some(0)),
-        (2, 1, Some(2)),
-        (3, 0, Some(2)),
-        (4, 1, Some(1)),
-        (5, 0, None),
-        (2, 4_294_967_295, Some(4_294_967_295)),
-    ];
-    for (job, floor, start) in cases {
+fn usage_of_a_plan(rt: HostRuntime) -> Result<(), Fail> {
+    let project = build(rt.alloc(), &EIGHTEEN)?;
+    place_and_compare(&rt, rt.alloc(), &project);
+    Ok(())
+}
+
+/// Jobs of one mode. Job 1 fills a period. Job 4 takes no time, and job 5 asks for more than there is.
+const BESIDE_A_FULL_PERIOD: WorkedProject = WorkedProject {
+    jobs: &[
+        (&[(1, &[2, 0], &[])], &[]),
+        (&[(1, &[1, 0], &[])], &[]),
+        (&[(2, &[1, 0], &[])], &[]),
+        (&[(0, &[2, 1], &[])], &[]),
+        (&[(1, &[3, 0], &[])], &[]),
+    ],
+    capacities: &[2, 0],
+    budgets: &[],
+    calendar: &[],
+};
+
+/// A job, a floor, and its earliest start from there on, where job 1 fills period 1.
+const STARTS_BESIDE: [(u8, u32, Option<u32>); 6] = [
+    (2, 0, Some(0)),
+    (2, 1, Some(2)),
+    (3, 0, Some(2)),
+    (4, 1, Some(1)),
+    (5, 0, None),
+    (2, 4_294_967_295, Some(4_294_967_295)),
+];
+
+fn compare_starts(rt: &impl Abort, alloc: Global, project: &Project) {
+    let mut profile = Profile::empty(alloc, project);
+    place_at(rt, project, &mut profile, 1, 1);
+    for (job, floor, start) in STARTS_BESIDE {
         assert_eq!(rt;
-            earliest_from(&rt, &project, &profile, job, floor),
+            earliest_from(rt, project, &profile, job, floor),
             start,
             "job {job} from {floor}"
         );
     }
+}
+
+#[test]
+fn starts_beside_a_full_period(rt: HostRuntime) -> Result<(), Fail> {
+    let project = build(rt.alloc(), &BESIDE_A_FULL_PERIOD)?;
+    compare_starts(&rt, rt.alloc(), &project);
     Ok(())
+}
+
+/// Two jobs of one period that both ask for all there is.
+const TWO_SHORT: WorkedProject = WorkedProject {
+    jobs: &[(&[(1, &[1, 1], &[])], &[]), (&[(1, &[1, 1], &[])], &[])],
+    capacities: &[1, 1],
+    budgets: &[],
+    calendar: &[],
+};
+
+fn use_room(rt: &impl Abort, alloc: Global, project: &Project) {
+    let mut profile = Profile::empty(alloc, project);
+    assert_eq!(rt; profile.reserve(2), Ok(()));
+    place_at(rt, project, &mut profile, 1, 0);
+    place_at(rt, project, &mut profile, 2, 1);
+    assert_eq!(rt; profile.entries().len(), 2);
 }
 
 #[test]
 fn room_is_made_and_used(rt: HostRuntime) -> Result<(), Fail> {
-    let project = project_of(rt.alloc(), &[(1, [1, 1]), (1, [1, 1])], [1, 1])?;
-    let mut profile = Profile::empty(rt.alloc(), &project);
-    assert_eq!(rt; profile.reserve(2), Ok(()));
-    place_at(&rt, &project, &mut profile, 1, 0);
-    place_at(&rt, &project, &mut profile, 2, 1);
-    assert_eq!(rt; profile.entries().len(), 2);
+    let project = build(rt.alloc(), &TWO_SHORT)?;
+    use_room(&rt, rt.alloc(), &project);
+    Ok(())
+}
+
+/// The longest job, which asks for all there is of the first resource.
+const LONGEST: DraftRow = (&[(10_000, &[1, 0], &[])], &[]);
+
+const ALL_LONGEST: WorkedProject = WorkedProject {
+    jobs: &[LONGEST; 128],
+    capacities: &[1, 0],
+    budgets: &[],
+    calendar: &[],
+};
+
+fn place_the_longest(rt: &impl Abort, alloc: Global, project: &Project) -> Result<(), NoMemory> {
+    let mut profile = Profile::empty(alloc, project);
+    profile.reserve(128)?;
+    assert_eq!(rt; place_in_turn(rt, project, &mut profile), 1_270_000);
+    assert_eq!(rt; profile.times(project).len(), 129);
     Ok(())
 }
 
 #[test]
 fn long_jobs_one_after_the_other(rt: HostRuntime) -> Result<(), Fail> {
-    let jobs = [(10_000, [1, 0]); 128];
-    let project = project_of(rt.alloc(), &jobs, [1, 0])?;
-    let mut profile = Profile::empty(rt.alloc(), &project);
-    profile.reserve(128)?;
-    assert_eq!(rt; place_in_turn(&rt, &project, &mut profile), 1_270_000);
-    assert_eq!(rt; profile.times(&project).len(), 129);
-    Ok(())
+    let project = build(rt.alloc(), &ALL_LONGEST)?;
+    Ok(place_the_longest(&rt, rt.alloc(), &project)?)
+}
+
+/// Compares whether a job of one mode fits at each period, where none of the placed jobs starts later.
+fn compare_last(
+    rt: &impl Abort,
+    project: &Project,
+    profile: &Profile,
+    job: u8,
+    cases: &[(u32, bool)],
+)
+    requires { IsProfileOf project.now profile.now }
+{
+    for (at, fits) in cases {
+        assert_eq!(rt; fits_last(rt, project, profile, job, *at), *fits, "at {at}");
+    }
+}
+
+fn compare_times(rt: &impl Abort, alloc: Global, project: &Project) {
+    let mut profile = Profile::empty(alloc, project);
+    let none: [u32; 0] = [];
+    assert_eq!(rt; profile.times(project), none.as_slice());
+    compare_last(
+        rt,
+        project,
+        &profile,
+        2,
+        &[(0, false), (1, false), (2, true)],
+    );
+    place_at(rt, project, &mut profile, 1, 0);
+    place_at(rt, project, &mut profile, 2, 2);
+    assert_eq!(rt; profile.times(project), [0, 2, 5].as_slice());
+    compare_last(
+        rt,
+        project,
+        &profile,
+        3,
+        &[(2, false), (4, false), (5, true)],
+    );
 }
 
 #[test]
 fn times_and_the_last_start(rt: HostRuntime) -> Result<(), Fail> {
     let project = build(rt.alloc(), &AFTER_A_BREAK)?;
-    let mut profile = Profile::empty(rt.alloc(), &project);
-    let none: [u32; 0] = [];
-    assert_eq!(rt; profile.times(&project), none.as_slice());
-    for (at, fits) in [(0, false), (1, false), (2, true)] {
-        assert_eq!(rt; fits_last(&rt, &project, &profile, 2, at), fits, "at {at}");
-    }
-    place_at(&rt, &project, &mut profile, 1, 0);
-    place_at(&rt, &project, &mut profile, 2, 2);
-    assert_eq!(rt; profile.times(&project), [0, 2, 5].as_slice());
-    for (at, fits) in [(2, false), (4, false), (5, true)] {
-        assert_eq!(rt; fits_last(&rt, &project, &profile, 3, at), fits, "at {at}");
-    }
+    compare_times(&rt, rt.alloc(), &project);
     Ok(())
+}
+
+fn compare_around_a_break(rt: &impl Abort, alloc: Global, project: &Project) {
+    let profile = Profile::empty(alloc, project);
+    compare_last(
+        rt,
+        project,
+        &profile,
+        1,
+        &[(0, false), (2, false), (3, true)],
+    );
+    for at in [0, 2, 3] {
+        let start = earliest_from(rt, project, &profile, 1, at);
+        assert_eq!(rt; start, Some(3), "from {at}");
+    }
 }
 
 #[test]
 fn a_break_in_a_mode(rt: HostRuntime) -> Result<(), Fail> {
     let project = build(rt.alloc(), &LATE_BREAK)?;
-    let profile = Profile::empty(rt.alloc(), &project);
-    for (at, fits) in [(0, false), (2, false), (3, true)] {
-        assert_eq!(rt; fits_last(&rt, &project, &profile, 1, at), fits, "at {at}");
-        let start = earliest_from(&rt, &project, &profile, 1, at);
-        assert_eq!(rt; start, Some(3), "from {at}");
-    }
+    compare_around_a_break(&rt, rt.alloc(), &project);
     Ok(())
 }
