@@ -1,9 +1,12 @@
+//! The text of a bound with its steps: what it comes to, and what is written.
+
 ghost use Rattle.std.specs.Prelude.{◌≤◌};
 
 use bound_checker::{BoundChecker, BoundRefusal, bound_text};
-use project_net::{BuildRefusal, Project};
+use project_net::Project;
 use sched_base::{List, NoMemory};
 use std::alloc::Global;
+use std::process::Abort;
 use std::test::Fail;
 use window_refuter::{BoundStep, WindowBound, refutes, window_bound};
 use worked_projects::{
@@ -69,14 +72,18 @@ fn judge(alloc: Global, project: &Project, text: &[u8], size: usize) -> Result<u
     checker.finish()
 }
 
+fn compare_judgements(rt: &impl Abort, alloc: Global, project: &Project) {
+    for (text, judgement) in &JUDGEMENTS {
+        assert_eq!(rt; judge(alloc, project, text, 1), *judgement);
+        assert_eq!(rt; judge(alloc, project, text, 7), *judgement);
+        assert_eq!(rt; judge(alloc, project, text, 100), *judgement);
+    }
+}
+
 #[test]
 fn judgements(rt: HostRuntime) -> Result<(), Fail> {
     let project = build(rt.alloc(), &TWO_IN_TURN)?;
-    for (text, judgement) in &JUDGEMENTS {
-        assert_eq!(rt; judge(rt.alloc(), &project, text, 1), *judgement);
-        assert_eq!(rt; judge(rt.alloc(), &project, text, 7), *judgement);
-        assert_eq!(rt; judge(rt.alloc(), &project, text, 100), *judgement);
-    }
+    compare_judgements(&rt, rt.alloc(), &project);
     Ok(())
 }
 
@@ -93,13 +100,23 @@ fn judge_bound(
     Ok(judge(alloc, project, text.as_slice(), 64))
 }
 
+/// What is written of the project's bound comes to that bound.
+fn compare_written(rt: &impl Abort, alloc: Global, project: &Project) -> Result<(), NoMemory> {
+    let found = window_bound(alloc, project)?;
+    let judged = judge_bound(alloc, project, &found)?;
+    assert_eq!(rt; judged, Ok(found.bound));
+    Ok(())
+}
+
+fn write_bound(rt: &impl Abort, alloc: Global, worked: &WorkedProject) -> Result<(), Fail> {
+    let project = build(alloc, worked)?;
+    Ok(compare_written(rt, alloc, &project)?)
+}
+
 #[test]
 fn written_bounds(rt: HostRuntime) -> Result<(), Fail> {
     for worked in &BOUNDED {
-        let project = build(rt.alloc(), worked)?;
-        let found = window_bound(rt.alloc(), &project)?;
-        let judged = judge_bound(rt.alloc(), &project, &found)?;
-        assert_eq!(rt; judged, Ok(found.bound));
+        write_bound(&rt, rt.alloc(), worked)?;
     }
     Ok(())
 }
@@ -157,15 +174,25 @@ fn is_judged_without(
     Ok(judged.is_ok() == is_shown)
 }
 
+/// Leaves out each step of the project's bound in turn.
+fn leave_out_steps(rt: &impl Abort, alloc: Global, project: &Project) -> Result<(), NoMemory> {
+    let found = window_bound(alloc, project)?;
+    for place in 0..found.steps.as_slice().len() {
+        let is_judged = is_judged_without(alloc, project, &found, place)?;
+        assert!(rt; is_judged);
+    }
+    Ok(())
+}
+
+fn leave_out(rt: &impl Abort, alloc: Global, worked: &WorkedProject) -> Result<(), Fail> {
+    let project = build(alloc, worked)?;
+    Ok(leave_out_steps(rt, alloc, &project)?)
+}
+
 #[test]
 fn steps_left_out(rt: HostRuntime) -> Result<(), Fail> {
     for worked in &BOUNDED {
-        let project = build(rt.alloc(), worked)?;
-        let found = window_bound(rt.alloc(), &project)?;
-        for place in 0..found.steps.as_slice().len() {
-            let is_judged = is_judged_without(rt.alloc(), &project, &found, place)?;
-            assert!(rt; is_judged);
-        }
+        leave_out(&rt, rt.alloc(), worked)?;
     }
     Ok(())
 }

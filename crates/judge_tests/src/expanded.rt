@@ -1,6 +1,7 @@
 //! A log with as many expanded lines as there may be, and with one more.
 
 use log_checker::{Checker, Refused};
+use project_net::Project;
 use std::alloc::{AllocError, Global};
 use std::process::Abort;
 use std::test::Fail;
@@ -129,9 +130,13 @@ fn feed_tree(alloc: Global, checker: &mut Checker<'_>, size: usize) -> Result<Fe
 }
 
 /// 100,000 lines may be expanded, and the next is refused.
-fn expand_too_many(rt: &impl Abort, alloc: Global, size: usize) -> Result<(), Fail> {
-    let project = build(alloc, &SIDE_BY_SIDE)?;
-    let mut checker = Checker::new(alloc, &project);
+fn expand_too_many(
+    rt: &impl Abort,
+    alloc: Global,
+    project: &Project,
+    size: usize,
+) -> Result<(), AllocError> {
+    let mut checker = Checker::new(alloc, project);
     assert_eq!(rt; feed(&mut checker, HEADING, size), Ok(()));
     let fed = feed_tree(alloc, &mut checker, size)?;
     let expected = Fed {
@@ -146,12 +151,17 @@ fn expand_too_many(rt: &impl Abort, alloc: Global, size: usize) -> Result<(), Fa
     Ok(())
 }
 
+fn expand_by(rt: &impl Abort, alloc: Global, size: usize) -> Result<(), Fail> {
+    let project = build(alloc, &SIDE_BY_SIDE)?;
+    Ok(expand_too_many(rt, alloc, &project, size)?)
+}
+
 #[test]
 fn too_many_expanded(rt: HostRuntime) -> Result<(), Fail> {
-    expand_too_many(&rt, rt.alloc(), 64)
+    expand_by(&rt, rt.alloc(), 64)
 }
 
 #[test]
 fn too_many_expanded_by_bytes(rt: HostRuntime) -> Result<(), Fail> {
-    expand_too_many(&rt, rt.alloc(), 1)
+    expand_by(&rt, rt.alloc(), 1)
 }

@@ -211,7 +211,25 @@ fn judged(alloc: Global, project: &Project, text: &[u8], size: usize) -> Result<
     checker.finish()
 }
 
-/// Tries each edit of a report, whole and in single bytes.
+/// Tries an edit of a report, whole and in single bytes.
+fn try_edit(
+    rt: &impl Abort,
+    alloc: Global,
+    project: &Project,
+    worked: &Worked,
+    edit: &Edit,
+) -> Result<(), AllocError> {
+    let expected = match edit.3 {
+        Some((line, reason)) => Err(Refused::Report { line, reason }),
+        None => Ok(worked.verdict),
+    };
+    let text = edited(alloc, worked.report, edit)?;
+    for size in [text.len(), 1] {
+        assert_eq!(rt; judged(alloc, project, &text, size), expected);
+    }
+    Ok(())
+}
+
 fn try_edits(
     rt: &impl Abort,
     alloc: Global,
@@ -220,14 +238,7 @@ fn try_edits(
     edits: &[Edit],
 ) -> Result<(), AllocError> {
     for edit in edits {
-        let expected = match edit.3 {
-            Some((line, reason)) => Err(Refused::Report { line, reason }),
-            None => Ok(worked.verdict),
-        };
-        let text = edited(alloc, worked.report, edit)?;
-        for size in [text.len(), 1] {
-            assert_eq!(rt; judged(alloc, project, &text, size), expected);
-        }
+        try_edit(rt, alloc, project, worked, edit)?;
     }
     Ok(())
 }
@@ -235,21 +246,23 @@ fn try_edits(
 #[test]
 fn reports_on_twins(rt: HostRuntime) -> Result<(), Fail> {
     let project = build(rt.alloc(), &TWINS)?;
-    try_edits(&rt, rt.alloc(), &project, &ALIKE, ALIKE_EDITS)?;
-    Ok(())
+    Ok(try_edits(&rt, rt.alloc(), &project, &ALIKE, ALIKE_EDITS)?)
 }
 
 #[test]
 fn reports_on_two_in_turn(rt: HostRuntime) -> Result<(), Fail> {
     let project = build(rt.alloc(), &TWO_IN_TURN)?;
-    try_edits(&rt, rt.alloc(), &project, &IN_TURN, IN_TURN_EDITS)?;
-    try_edits(&rt, rt.alloc(), &project, &LEFT_AT_ONCE, LEFT_AT_ONCE_EDITS)?;
-    Ok(())
+    Ok(try_edits(&rt, rt.alloc(), &project, &IN_TURN, IN_TURN_EDITS)?)
+}
+
+#[test]
+fn reports_of_what_is_left(rt: HostRuntime) -> Result<(), Fail> {
+    let project = build(rt.alloc(), &TWO_IN_TURN)?;
+    Ok(try_edits(&rt, rt.alloc(), &project, &LEFT_AT_ONCE, LEFT_AT_ONCE_EDITS)?)
 }
 
 #[test]
 fn reports_on_needs(rt: HostRuntime) -> Result<(), Fail> {
     let project = build(rt.alloc(), &NEEDS_DIFFER)?;
-    try_edits(&rt, rt.alloc(), &project, &TWO_MODES, TWO_MODES_EDITS)?;
-    Ok(())
+    Ok(try_edits(&rt, rt.alloc(), &project, &TWO_MODES, TWO_MODES_EDITS)?)
 }

@@ -1,12 +1,16 @@
+//! Windows of the jobs, the steps that narrow them, and what refutes an end.
+
 ghost use Rattle.std.specs.Prelude.{◌≤◌};
 
+use project_net::{BuildRefusal, Project};
+use sched_base::NoMemory;
+use std::alloc::Global;
+use std::process::Abort;
+use std::test::Fail;
 use window_refuter::{
     BoundLine, BoundStep, Judged, Window, Windows, bound_line, narrowing_steps, parse_bound_line,
     refute, refutes, window_bound,
 };
-use project_net::{BuildRefusal, Project};
-use std::alloc::Global;
-use std::test::Fail;
 use worked_projects::{
     AFTER_A_BREAK, ALL_AT_ONCE, ASKS_TOO_MUCH, EIGHTEEN_JOBS, LATE_BREAK, LONGER_MODE,
     SHORT_OR_CHEAP, THREE_IN_TURN, TWO_IN_TURN, WorkedProject, build,
@@ -63,15 +67,19 @@ const CASES: [Case; 8] = [
 ];
 
 /// The window bound of a project, where it is above 0 and its steps refute the period before it.
-fn shown_bound(alloc: Global, worked: &WorkedProject) -> Result<Option<u32>, BuildRefusal> {
-    let project = build(alloc, worked)?;
-    let found = window_bound(alloc, &project)?;
+fn bound_if_shown(alloc: Global, project: &Project) -> Result<Option<u32>, NoMemory> {
+    let found = window_bound(alloc, project)?;
     let bound = found.bound;
     if bound < 1 || 1_290_001 < bound {
         return Ok(None);
     }
-    let is_shown = refutes(&project, bound - 1, found.steps.as_slice());
+    let is_shown = refutes(project, bound - 1, found.steps.as_slice());
     Ok(is_shown.then_some(bound))
+}
+
+fn shown_bound(alloc: Global, worked: &WorkedProject) -> Result<Option<u32>, BuildRefusal> {
+    let project = build(alloc, worked)?;
+    Ok(bound_if_shown(alloc, &project)?)
 }
 
 #[test]
@@ -141,25 +149,34 @@ const REFUTATIONS: [Refutation; 12] = [
     (3, &[BoundStep::Work(1, 0, 4)], false),
 ];
 
+fn compare_refutations(rt: &impl Abort, project: &Project) {
+    for (end, steps, is_refuted) in REFUTATIONS {
+        if end <= 1_290_000 {
+            assert_eq!(rt; refutes(project, end, steps), is_refuted, "{end}");
+        }
+    }
+}
+
 #[test]
 fn refutations(rt: HostRuntime) -> Result<(), Fail> {
     let project = build(rt.alloc(), &TWO_IN_TURN)?;
-    for (end, steps, is_refuted) in REFUTATIONS {
-        if end <= 1_290_000 {
-            assert_eq!(rt; refutes(&project, end, steps), is_refuted, "{end}");
-        }
-    }
+    compare_refutations(&rt, &project);
+    Ok(())
+}
+
+/// The end 4 is refuted, and the end 5 is not.
+fn refute_ends(rt: &impl Abort, alloc: Global, project: &Project) -> Result<(), NoMemory> {
+    let early = refute(alloc, project, 4)?;
+    assert!(rt; early.is_some());
+    let late = refute(alloc, project, 5)?;
+    assert!(rt; late.is_none());
     Ok(())
 }
 
 #[test]
 fn two_ends(rt: HostRuntime) -> Result<(), Fail> {
     let project = build(rt.alloc(), &TWO_IN_TURN)?;
-    let early = refute(rt.alloc(), &project, 4)?;
-    assert!(rt; early.is_some());
-    let late = refute(rt.alloc(), &project, 5)?;
-    assert!(rt; late.is_none());
-    Ok(())
+    Ok(refute_ends(&rt, rt.alloc(), &project)?)
 }
 
 /// Windows of a caller's own: job 2 runs from period 1 to 4 in any case, which leaves no room for job 3 by period 5.
@@ -182,15 +199,19 @@ const OWN: [Window; 4] = [
     },
 ];
 
+fn refute_own(rt: &impl Abort, alloc: Global, project: &Project) -> Result<(), NoMemory> {
+    let narrowing = narrowing_steps(alloc, project)?;
+    assert_eq!(rt; project.jobs(), 4);
+    let windows = Windows::of(&OWN, 5);
+    let found = windows.refute(alloc, project, narrowing.as_slice())?;
+    assert!(rt; found.is_some());
+    Ok(())
+}
+
 #[test]
 fn own_windows(rt: HostRuntime) -> Result<(), Fail> {
     let project = build(rt.alloc(), &TWO_IN_TURN)?;
-    let narrowing = narrowing_steps(rt.alloc(), &project)?;
-    assert_eq!(rt; project.jobs(), 4);
-    let windows = Windows::of(&OWN, 5);
-    let found = windows.refute(rt.alloc(), &project, narrowing.as_slice())?;
-    assert!(rt; found.is_some());
-    Ok(())
+    Ok(refute_own(&rt, rt.alloc(), &project)?)
 }
 
 /// Lines as bytes, and what they say.
@@ -268,15 +289,19 @@ fn judgements(rt: HostRuntime) -> Result<(), Fail> {
     Ok(())
 }
 
-#[test]
-fn first_windows(rt: HostRuntime) -> Result<(), Fail> {
-    let project = build(rt.alloc(), &TWO_IN_TURN)?;
-    let windows = Windows::new(&project, 4);
+fn compare_first(rt: &impl Abort, project: &Project) {
+    let windows = Windows::new(project, 4);
     let whole = Window {
         earliest_start: 0,
         latest_finish: 4,
     };
     assert_eq!(rt; windows.end(), 4);
     assert!(rt; windows.as_slice() == [whole; 4].as_slice());
+}
+
+#[test]
+fn first_windows(rt: HostRuntime) -> Result<(), Fail> {
+    let project = build(rt.alloc(), &TWO_IN_TURN)?;
+    compare_first(&rt, &project);
     Ok(())
 }
