@@ -2,8 +2,18 @@
 #![tactic(auto)]
 
 #[cfg(test)]
+mod nodes;
+#[cfg(test)]
+mod records;
+#[cfg(test)]
+mod refusing;
+#[cfg(test)]
 mod rounds;
 #[cfg(test)]
 mod searches;
 #[cfg(test)]
+mod threads;
+#[cfg(test)]
 mod visits;
+#[cfg(test)]
+mod workers;

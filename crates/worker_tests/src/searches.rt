@@ -1,9 +1,16 @@
-use steal_rounds::*;
+//! Whole searches, by one worker and by several.
+
+ghost use Rattle.std.specs.Prelude.{◌≤◌};
+
+use project_net::Project;
 use proof_log::{LogLine, Verdict};
-use sched_base::{Fate, OpenGate};
+use sched_base::{Fate, NoMemory, OpenGate};
 use search_rounds::Found;
+use std::alloc::Global;
 use std::process::Abort;
 use std::test::Fail;
+use std::thread::Threads;
+use steal_rounds::search;
 use worked_projects::{
     EIGHTEEN_JOBS_TIGHT, NEEDS_DIFFER, NO_LENGTH, SHORT_OR_CHEAP, TWINS, TWO_IN_TURN,
     WorkedProject, build,
@@ -130,12 +137,30 @@ fn compare(rt: &impl Abort, case: &Case, found: &Found) {
     }
 }
 
+fn search_alone<R: Threads + Sync + Abort>(
+    rt: &R,
+    alloc: Global,
+    project: &Project,
+    case: &Case,
+) -> Result<(), NoMemory>
+    requires { case.now.nodes ≤ 100000 }
+{
+    let found = search(rt, alloc, project, 1, case.nodes, &OpenGate)?;
+    compare(rt, case, &found);
+    Ok(())
+}
+
+fn search_case<R: Threads + Sync + Abort>(rt: &R, alloc: Global, case: &Case) -> Result<(), Fail>
+    requires { case.now.nodes ≤ 100000 }
+{
+    let project = build(alloc, case.project)?;
+    Ok(search_alone(rt, alloc, &project, case)?)
+}
+
 #[test]
 fn searches_of_one_worker(rt: HostRuntime) -> Result<(), Fail> {
     for case in &CASES {
-        let project = build(rt.alloc(), case.project)?;
-        let found = search(&rt, rt.alloc(), &project, 1, case.nodes, &OpenGate)?;
-        compare(&rt, case, &found);
+        search_case(&rt, rt.alloc(), case)?;
     }
     Ok(())
 }
@@ -151,7 +176,7 @@ const SHARED: [&WorkedProject; 5] = [
 
 const EXPANSIONS: u32 = 5000;
 
-// Two searches that reached their end say the same.
+/// Two searches that reached their end say the same.
 fn agree(verdict: Verdict, other: Verdict) -> bool {
     match (verdict, other) {
         (Verdict::Limit { .. }, _) | (_, Verdict::Limit { .. }) => true,
@@ -159,15 +184,46 @@ fn agree(verdict: Verdict, other: Verdict) -> bool {
     }
 }
 
+/// The verdict of a search by so many workers.
+fn verdict_of<R: Threads + Sync>(
+    rt: &R,
+    alloc: Global,
+    project: &Project,
+    workers: u32,
+) -> Result<Verdict, NoMemory>
+    requires some { 1 ≤ workers }
+    requires few { workers ≤ 32 }
+{
+    let found = search(rt, alloc, project, workers, EXPANSIONS, &OpenGate)?;
+    Ok(found.verdict)
+}
+
+fn compare_crews<R: Threads + Sync + Abort>(
+    rt: &R,
+    alloc: Global,
+    project: &Project,
+) -> Result<(), NoMemory> {
+    let alone = verdict_of(rt, alloc, project, 1)?;
+    for workers in [2, 3, 32] {
+        let verdict = verdict_of(rt, alloc, project, workers)?;
+        assert!(rt; agree(alone, verdict), "{} workers", workers);
+    }
+    Ok(())
+}
+
+fn search_by_crews<R: Threads + Sync + Abort>(
+    rt: &R,
+    alloc: Global,
+    worked: &WorkedProject,
+) -> Result<(), Fail> {
+    let project = build(alloc, worked)?;
+    Ok(compare_crews(rt, alloc, &project)?)
+}
+
 #[test]
 fn searches_of_several_workers(rt: HostRuntime) -> Result<(), Fail> {
     for worked in &SHARED {
-        let project = build(rt.alloc(), worked)?;
-        let alone = search(&rt, rt.alloc(), &project, 1, EXPANSIONS, &OpenGate)?;
-        for workers in [2, 3, 32] {
-            let found = search(&rt, rt.alloc(), &project, workers, EXPANSIONS, &OpenGate)?;
-            assert!(rt; agree(alone.verdict, found.verdict), "{} workers", workers);
-        }
+        search_by_crews(&rt, rt.alloc(), worked)?;
     }
     Ok(())
 }

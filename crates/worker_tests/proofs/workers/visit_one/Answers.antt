@@ -1,4 +1,4 @@
-use Rattle.worker_tests.proofs.visits.visit_one.Goals as goal
+use Rattle.worker_tests.proofs.workers.visit_one.Goals as goal
 
 pub returns-in-Expanded-clause-stack : goal.returns-in-Expanded-clause-stack
 returns-in-Expanded-clause-stack g c =

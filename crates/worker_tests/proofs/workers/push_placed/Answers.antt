@@ -1,6 +1,6 @@
 use Rattle.std.proofs.lemmas.List.Elements.{All-pop}
 use Rattle.precedence_tree.specs.Children.{StandsWherePlaced}
-use Rattle.worker_tests.proofs.visits.push_placed.Goals as goal
+use Rattle.worker_tests.proofs.workers.push_placed.Goals as goal
 
 pub loop-next-preserved : goal.loop-next-preserved
 loop-next-preserved c = λ P stand children.
