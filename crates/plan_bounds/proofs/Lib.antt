@@ -1,3 +1,4 @@
+pub mod LowestBits
 pub mod TailSteps
 pub mod Parts
 pub mod SupplySteps

@@ -1,12 +1,15 @@
 -- The tail bound by the jobs that were eligible before the newest one, and by the active ones.
 use Rattle.std.proofs.Common.{◌≡◌, ℕ, zero, suc, ◌+◌, ◌-◌, ◌<◌, ◌≤◌, max, ◌⊎◌, inl, inr, arith, refl, sym, ap, subst, ◌∙◌, true, false, eqb, List, [], ◌∷◌, length, get_or, take}
 use Rattle.std.specs.Prelude.{◌++◌, All, Option, Some, None, sum_by, filter}
-use Rattle.std.proofs.lemmas.Bool.{cases_Bool, cases_lt, both_ways, eqb-true}
+use Rattle.std.specs.Int.{bit_at}
+use Rattle.std.proofs.lemmas.Bool.{cases_Bool, cases_lt, cases_eq, both_ways, eqb-true}
 use Rattle.std.proofs.lemmas.List.Elements.{All-cons, All-nil, All-head, All-more, All-contains, Contains-get_or}
 use Rattle.std.proofs.lemmas.List.Sums.{fold_push}
+use Rattle.std.proofs.lemmas.Nat.Bits.{bit_at-zero, bit_at-lt}
 use Rattle.std.proofs.Math.Seq.{take-length}
 use Rattle.sched_base.specs.declared.job_set.JobSet.{JobSet}
-use Rattle.sched_base.specs.JobSet.{member, IsNextMember}
+use Rattle.sched_base.specs.JobSet.{member}
+use Rattle.sched_base.proofs.Sets.{member-zero, member-one}
 use Rattle.rcpsp_model.specs.declared.parts.Entry.{Entry}
 use Rattle.rcpsp_model.specs.Project.{Project, IsJob, IsAcyclic, Before, is_before, job_count}
 use Rattle.rcpsp_model.specs.Schedule.{finish, end_of}
@@ -31,6 +34,7 @@ use Rattle.precedence_tree.proofs.Ordered.{no_active}
 use Rattle.precedence_tree.proofs.Pushed.{eligible-before, still-eligible}
 use Rattle.precedence_tree.proofs.Actives.{front-starts, active-has}
 use Rattle.plan_bounds.specs.Tails.{IsZeroOrTail, IsAfter, IsFloorOrAfter}
+use Rattle.plan_bounds.proofs.LowestBits.{HasLowest}
 
 -- Tails.
 
@@ -60,39 +64,46 @@ tail-follows P a i t is = go is.attained.0 is.attained.1 is.attained.2
         let rest = sum_by-total (least_duration P) (k ∷ js) in
         inr (k, own.0, c.0, own.1, (let same : t ≡ least_duration P i + own.0 = omega arith in same))
 
--- The greatest tail of the jobs of a set, up to a number.
-pub record LongestTo (P : Project) (jobs : JobSet) (last longest : ℕ) : Type 0 where
+-- The greatest tail of the jobs of a set but for those of the rest: job j is bit j - 1 of the rest.
+pub record LongestBut (P : Project) (jobs : JobSet) (rest longest : ℕ) : Type 0 where
   pub attained : IsZeroOrTail P jobs longest
-  pub each : (j u : ℕ) → 1 ≤ j → j ≤ last → member jobs j ≡ true → IsTail P j u → u ≤ longest
+  pub within : (i : ℕ) → bit_at rest i ≡ 1 → bit_at jobs.0 i ≡ 1
+  pub each : (j u : ℕ) → 1 ≤ j → member jobs j ≡ true → bit_at rest (j - 1) ≡ 0 → IsTail P j u → u ≤ longest
 
-pub longest-none : (P : Project) (jobs : JobSet) → LongestTo P jobs 0 0
-longest-none P jobs = record { attained = inl refl; each = λ j u low high. absurd (omega arith) }
+pub longest-none : (P : Project) (jobs : JobSet) → LongestBut P jobs jobs.0 0
+longest-none P jobs = record {
+  attained = inl refl;
+  within = λ i one. one;
+  each = λ j u low has none tail.
+      absurd (both_ways (member jobs j) (subst (λ (k : ℕ). member jobs k ≡ false) (let e : j - 1 + 1 ≡ j = omega arith in e) (member-zero jobs (j - 1) none)) has);
+}
 
-pub longest-more : (P : Project) (jobs : JobSet) (last longest job t next : ℕ) → IsNextMember jobs last job → IsTail P job t → next ≡ max longest t → LongestTo P jobs last longest →
-    LongestTo P jobs job next
-longest-more P jobs last longest job t next found is now so_far = record {
+pub longest-more : (P : Project) (jobs : JobSet) (rest longest place less job t next : ℕ) → HasLowest rest place less → job ≡ place + 1 → IsTail P job t → next ≡ max longest t → LongestBut P jobs rest longest →
+    LongestBut P jobs less next
+longest-more P jobs rest longest place less job t next taken named is now so_far = record {
   attained = elim (cases_lt longest t) [
-    | inl more ↦ inr (job, (let above = found.later in omega arith), found.own, subst (IsTail P job) (let e : t ≡ next = omega arith in e) is)
-    | inr less ↦ subst (IsZeroOrTail P jobs) (let e : longest ≡ next = omega arith in e) so_far.attained
+    | inl more ↦
+        let own = subst (λ (k : ℕ). member jobs k ≡ true) (sym named) (member-one jobs place (so_far.within place taken.set)) in
+        inr (job, (let e : 1 ≤ job = omega arith in e), own, subst (IsTail P job) (let e : t ≡ next = omega arith in e) is)
+    | inr fewer ↦ subst (IsZeroOrTail P jobs) (let e : longest ≡ next = omega arith in e) so_far.attained
   ];
-  each = λ j u low high has tail. elim (cases_lt last j) [
-    | inl above ↦
-        let from = found.lowest j above has in
-        let same : u ≡ t = tail-one P job u t (subst (λ i. IsTail P i u) (let e : j ≡ job = omega arith in e) tail) is in
+  within = λ i one. so_far.within i (taken.within i one);
+  each = λ j u low has none tail. elim (cases_eq (bit_at rest (j - 1)) 0) [
+    | inl before ↦ let le = so_far.each j u low has before tail in omega arith
+    | inr set ↦
+        let most = bit_at-lt rest (j - 1) in
+        let own = taken.others (j - 1) (let e : bit_at rest (j - 1) ≡ 1 = omega arith in e) none in
+        let same : u ≡ t = tail-one P job u t (subst (λ (i : ℕ). IsTail P i u) (let e : j ≡ job = omega arith in e) tail) is in
         omega arith
-    | inr before ↦ let le = so_far.each j u low before has tail in omega arith
   ];
 }
 
-pub longest-all : (P : Project) (jobs : JobSet) (last longest : ℕ) → ((i : ℕ) → last < i → member jobs i ≡ false) → LongestTo P jobs last longest → IsGreatest (IsZeroOrTail P jobs) longest
-longest-all P jobs last longest none so_far = record { attained = so_far.attained; greatest = over }
+pub longest-all : (P : Project) (jobs : JobSet) (rest longest : ℕ) → rest ≡ 0 → LongestBut P jobs rest longest → IsGreatest (IsZeroOrTail P jobs) longest
+longest-all P jobs rest longest none so_far = record { attained = so_far.attained; greatest = over }
   where
     over : (u : ℕ) → IsZeroOrTail P jobs u → u ≤ longest
     over u (inl e) = omega arith
-    over u (inr j) = elim (cases_lt last j.0) [
-      | inl above ↦ absurd (both_ways (member jobs j.0) (none j.0 above) j.2)
-      | inr within ↦ so_far.each j.0 u j.1 within j.2 j.3
-    ]
+    over u (inr j) = so_far.each j.0 u j.1 j.2 (ap (λ n. bit_at n (j.0 - 1)) none ∙ bit_at-zero (j.0 - 1)) j.3
 
 -- The greatest of a floor and of when the chains after the first n active jobs can be done.
 pub record PastTo (P : Project) (xs : List Active) (floor n bound : ℕ) : Type 0 where

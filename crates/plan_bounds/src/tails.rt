@@ -18,10 +18,11 @@ fn longest_tail(project: &Project, jobs: JobSet) -> u32
     ensures limit { result ≤ 1280000 }
 {
     let mut longest = 0u32;
-    let mut last = 0;
-    while let Some(job) = jobs.next_after(last) {
-        longest = longest.max(project.tail(job.0));
-        last = job.0;
+    let mut rest = jobs.0;
+    while rest != 0 {
+        let job = rest.trailing_zeros() as u8 + 1;
+        longest = longest.max(project.tail(job));
+        rest &= rest - 1;
     }
     longest
 }

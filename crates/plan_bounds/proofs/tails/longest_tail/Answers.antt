@@ -1,13 +1,28 @@
-use Rattle.std.proofs.Common.{arith}
-use Rattle.plan_bounds.proofs.TailSteps.{longest-more, longest-all}
+use Rattle.std.proofs.Common.{◌+◌, arith, refl}
+use Rattle.std.specs.Int.{trailing_zeros, w128}
+use Rattle.sched_base.proofs.Sets.{member-one}
+use Rattle.plan_bounds.proofs.LowestBits.{lowest-taken}
+use Rattle.plan_bounds.proofs.TailSteps.{longest-none, longest-more, longest-all}
 use Rattle.plan_bounds.proofs.tails.longest_tail.Goals as goal
 
-pub loop-job-preserved : goal.loop-job-preserved
-loop-job-preserved c = (
-  longest-more c.args.project.now c.args.jobs c.loop-job.last c.loop-job.longest c.in-Some.job.0 c.tail.result c.max-longest.result c.in-Some.ensures.some c.tail.ensures.value c.max-longest.ensures c.loop-job.invariant.0,
-  c.in-Some.ensures.high,
-  (let most = c.max-longest.ensures in let limit = c.tail.ensures.limit in let old = c.loop-job.invariant.2 in omega arith),
+pub loop-rest-init : goal.loop-rest-init
+loop-rest-init c = (longest-none c.args.project.now c.args.jobs, omega arith)
+
+pub tail-requires : goal.tail-requires
+tail-requires c =
+    let place = trailing_zeros w128 c.loop-rest.rest in
+    let taken = lowest-taken c.loop-rest.rest (omega arith) (omega arith) in
+    c.requires (place + 1) (omega arith) (member-one c.args.jobs place (c.loop-rest.invariant.0.within place taken.set))
+
+pub loop-rest-smaller : goal.loop-rest-smaller
+loop-rest-smaller c = (lowest-taken c.loop-rest.rest (omega arith) (omega arith)).fewer
+
+pub loop-rest-preserved : goal.loop-rest-preserved
+loop-rest-preserved c = (
+  longest-more c.args.project.now c.args.jobs c.loop-rest.rest c.loop-rest.longest (trailing_zeros w128 c.loop-rest.rest) _ (trailing_zeros w128 c.loop-rest.rest + 1) c.tail.result c.max-longest.result
+      (lowest-taken c.loop-rest.rest (omega arith) (omega arith)) refl c.tail.ensures.value c.max-longest.ensures c.loop-rest.invariant.0,
+  (let most = c.max-longest.ensures in let limit = c.tail.ensures.limit in let old = c.loop-rest.invariant.1 in omega arith),
 )
 
 pub returns-clause-value : goal.returns-clause-value
-returns-clause-value c = longest-all c.args.project.now c.args.jobs c.loop-job.last c.loop-job.longest c.in_default.ensures.none c.loop-job.invariant.0
+returns-clause-value c = longest-all c.args.project.now c.args.jobs c.loop-rest.rest c.loop-rest.longest (omega arith) c.loop-rest.invariant.0
