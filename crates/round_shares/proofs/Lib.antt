@@ -1,0 +1,15 @@
+pub mod ListPlaces
+pub mod EndNumbers
+pub mod SameItems
+pub mod RealPlaces
+pub mod RealFates
+pub mod RealEvents
+pub mod BornNodes
+pub mod PlacedShares
+pub mod ShareRows
+pub mod ShareVisits
+pub mod CrewNodes
+pub mod CrewTables
+pub mod CrewTurns
+pub mod CrewCitations
+pub mod CrewParts

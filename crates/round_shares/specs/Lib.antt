@@ -1,0 +1,5 @@
+pub mod Ends
+pub mod Part
+pub mod Share
+pub mod Crew
+pub mod Laws
