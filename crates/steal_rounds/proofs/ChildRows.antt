@@ -1,5 +1,5 @@
 -- The rows of children, and those of them that wait.
-use Rattle.std.proofs.Common.{◌≡◌, ℕ, zero, suc, ◌+◌, ◌-◌, ◌<◌, refl, sym, ap, subst, ◌∙◌, arith, List, [], ◌∷◌, ◌++◌, length, length-append, append_assoc, map, All, Some, None}
+use Rattle.std.proofs.Common.{◌≡◌, ℕ, suc, ◌+◌, ◌-◌, ◌<◌, ◌≤◌, refl, sym, ap, subst, ◌∙◌, arith, List, [], ◌∷◌, ◌++◌, length, length-append, map, All, Some, None}
 use Rattle.std.specs.List.{AllZip}
 use Rattle.std.proofs.lemmas.List.{get_or_at}
 use Rattle.std.proofs.lemmas.List.Elements.{All-cons, All-nil, All-head, All-tail}
@@ -7,6 +7,7 @@ use Rattle.rcpsp_model.specs.declared.parts.Child.{Child}
 use Rattle.rcpsp_model.specs.declared.parts.Child.TheVariants.{Placed, Shut}
 use Rattle.rcpsp_model.specs.declared.parts.Entry.{Entry}
 use Rattle.rcpsp_model.specs.declared.parts.Verdict.{Verdict}
+use Rattle.rcpsp_model.specs.declared.parts.Verdict.TheVariants.{Infeasible}
 use Rattle.rcpsp_model.specs.Project.{Project}
 use Rattle.rcpsp_model.specs.Tree.{Choice, entry_at, IsChild}
 use Rattle.precedence_tree.specs.Node.{NodeState, StandsFor}
@@ -15,16 +16,22 @@ use Rattle.log_truth.specs.Log.{Branch, by_choice}
 use Rattle.search_log.specs.declared.row.RowFate.TheVariants as fate
 use Rattle.search_log.specs.declared.row.Row.{Row}
 use Rattle.search_log.specs.declared.row.Origin.{Origin}
-use Rattle.search_log.specs.Weights.{total, over, Each}
-use Rattle.search_log.specs.Table.{row_at, says_row, children_of}
-use Rattle.search_log.specs.Stands.{TreeNode, no_node, node_at, RowSuits, IsAtPlace, if_open}
+use Rattle.search_log.specs.Weights.{Each}
+use Rattle.search_log.specs.Table.{says_row}
+use Rattle.search_log.specs.Stands.{TreeNode, node_at, RowSuits, Waiting}
 use Rattle.search_log.specs.Laws.{child_node, child_row}
-use Rattle.search_log.proofs.Sums.{total-append, Each-append}
+use Rattle.search_log.proofs.Sums.{Each-append}
 use Rattle.search_log.proofs.GrownTables.{child_rows_law}
 use Rattle.search_rounds.specs.declared.round.WaitingNode.{WaitingNode}
 use Rattle.search_rounds.specs.Round.{waits_at, waiting_of}
 use Rattle.steal_rounds.specs.Children.{last_placed, placed_row, row_of_child, new_row, waiting_child, placed_from}
-use Rattle.steal_rounds.specs.Part.{Beginning, IsNewRow, IsByOneOf}
+use Rattle.round_shares.specs.Part.{Beginning, IsNewRow, IsByOneOf}
+use Rattle.round_shares.specs.Share.{born_at, born, IsNewAt, IsRowFor}
+
+-- the place is one of these
+pub record IsWithin (low high : ℕ) (w : Waiting) : Type 0 where
+  pub from : low ≤ w.place
+  pub below : w.place < high
 
 -- the node of the tree for which a child stands
 abbrev pub kid_node : List Entry → Choice → Child NodeState → TreeNode
@@ -84,72 +91,49 @@ kid-row P v ns p F c (Shut j m why) at is =
     ∙ ap (λ (x : ℕ). let r : Row = record { start = None; fate = fate.Shut why; job = j; mode = x } in r) (sym is.1) in
     subst (RowSuits P v ns p) row ((child_rows_law P v ns p F c).shut why at is.2)
 
--- the row of each child is right where the nodes of the children come behind the others
-pub kid-rows : (P : Project) (v : Verdict) (ns : List TreeNode) (F : List Entry) (cs : List Choice) (kids : List (Child NodeState)) → AllZip (IsKid P F) cs kids → (i : ℕ) → i < length kids →
-    RowSuits P v (ns ++ kid_nodes F cs kids) (length ns + i) (row_at (map row_of_child kids) i)
-kid-rows P v ns F [] [] z i l = absurd (omega arith)
-kid-rows P v ns F [] (kid ∷ kids) z i l = absurd z
-kid-rows P v ns F (c ∷ cs) [] z i l = absurd z
-kid-rows P v ns F (c ∷ cs) (kid ∷ kids) z zero l =
-    kid-row P v (ns ++ kid_node F c kid ∷ kid_nodes F cs kids) (length ns + 0) F c kid (get_or_at ns (kid_node F c kid) (kid_nodes F cs kids) no_node (length ns + 0) (omega arith)) z.0
-kid-rows P v ns F (c ∷ cs) (kid ∷ kids) z (suc i) l =
-    let n = kid_node F c kid in
-    let len = length-append ns (n ∷ []) in
-    let place : length (ns ++ n ∷ []) + i ≡ length ns + suc i = omega arith in
-    subst (λ (x : ℕ). RowSuits P v (ns ++ n ∷ kid_nodes F cs kids) x (row_at (map row_of_child kids) i)) place
-    (subst (λ (x : List TreeNode). RowSuits P v x (length (ns ++ n ∷ []) + i) (row_at (map row_of_child kids) i)) (append_assoc ns (n ∷ []) (kid_nodes F cs kids))
-    (kid-rows P v (ns ++ n ∷ []) F cs kids z.1 i (omega arith)))
+new-says : (F : List Entry) (c : Choice) (kid : Child NodeState) → IsNewAt (kid_node F c kid).front (says_row (row_of_child kid))
+new-says F c (Placed node) = tt
+new-says F c (Shut j m why) = tt
 
--- Weights.
+-- the row of each child is that of its node
+pub kid-rows : (P : Project) (F : List Entry) (cs : List Choice) (kids : List (Child NodeState)) → AllZip (IsKid P F) cs kids → AllZip (IsRowFor P) (kid_nodes F cs kids) (map row_of_child kids)
+kid-rows P F [] [] z = tt
+kid-rows P F [] (kid ∷ kids) z = absurd z
+kid-rows P F (c ∷ cs) [] z = absurd z
+kid-rows P F (c ∷ cs) (kid ∷ kids) z = (
+  (let r = kid-row P Infeasible (kid_node F c kid ∷ []) 0 F c kid refl z.0 in record { line = r.line; front = r.front; says = new-says F c kid }),
+  kid-rows P F cs kids z.1,
+)
 
-child-weight : (h : ℕ → ℕ) (p : ℕ) (kid : Child NodeState) → total (λ w. h w.place) (waiting_of (waiting_child p kid)) ≡ if_open (says_row (row_of_child kid)) (h p)
-child-weight h p (Placed node) = omega arith
-child-weight h p (Shut j m why) = refl
+-- What waits.
 
 pub waiting-append : (xs ys : List WaitingNode) → waiting_of (xs ++ ys) ≡ waiting_of xs ++ waiting_of ys
 waiting-append [] ys = refl
 waiting-append (x ∷ xs) ys = ap (λ (ws : List _). waits_at x ∷ ws) (waiting-append xs ys)
 
-pub waiting-weight : (h : ℕ → ℕ) (xs ys : List WaitingNode) → total (λ w. h w.place) (waiting_of (xs ++ ys)) ≡ total (λ w. h w.place) (waiting_of xs) + total (λ w. h w.place) (waiting_of ys)
-waiting-weight h xs ys = ap (total (λ w. h w.place)) (waiting-append xs ys) ∙ total-append (λ w. h w.place) (waiting_of xs) (waiting_of ys)
+child-born : (p : ℕ) (F : List Entry) (c : Choice) (kid : Child NodeState) → waiting_of (waiting_child p kid) ≡ born_at p (kid_node F c kid).front
+child-born p F c (Placed node) = refl
+child-born p F c (Shut j m why) = refl
 
--- the placed children are the open rows
-pub kid-waiting : (h : ℕ → ℕ) (p : ℕ) (kids : List (Child NodeState)) →
-    total (λ w. h w.place) (waiting_of (placed_from p kids)) ≡ over (λ k r. if_open (says_row r) (h k)) p (map row_of_child kids)
-kid-waiting h p [] = refl
-kid-waiting h p (kid ∷ kids) =
-    let a = waiting-weight h (waiting_child p kid) (placed_from (p + 1) kids) in
-    let b = child-weight h p kid in
-    let ih = kid-waiting h (p + 1) kids in
-    omega arith
+-- the placed children are the fronts of the nodes
+pub kid-born : (P : Project) (F : List Entry) (cs : List Choice) (kids : List (Child NodeState)) → AllZip (IsKid P F) cs kids → (p : ℕ) → waiting_of (placed_from p kids) ≡ born p (kid_nodes F cs kids)
+kid-born P F [] [] z p = refl
+kid-born P F [] (kid ∷ kids) z p = absurd z
+kid-born P F (c ∷ cs) [] z p = absurd z
+kid-born P F (c ∷ cs) (kid ∷ kids) z p =
+    waiting-append (waiting_child p kid) (placed_from (p + 1) kids)
+    ∙ (ap (λ (ws : List Waiting). ws ++ waiting_of (placed_from (p + 1) kids)) (child-born p F c kid) ∙ ap (λ (ws : List Waiting). born_at p (kid_node F c kid).front ++ ws) (kid-born P F cs kids z.1 (p + 1)))
 
-child-childless : (h : ℕ → ℕ) (kid : Child NodeState) → total h (children_of (says_row (row_of_child kid))) ≡ 0
-child-childless h (Placed node) = refl
-child-childless h (Shut j m why) = refl
+child-within : (low high p : ℕ) (kid : Child NodeState) → low ≤ p → p < high → Each (IsWithin low high) (waiting_of (waiting_child p kid))
+child-within low high p (Placed node) l h = (record { from = l; below = h }, tt)
+child-within low high p (Shut j m why) l h = tt
 
-pub kid-childless : (h : ℕ → ℕ) (p : ℕ) (kids : List (Child NodeState)) → over (λ k r. total h (children_of (says_row r))) p (map row_of_child kids) ≡ 0
-kid-childless h p [] = refl
-kid-childless h p (kid ∷ kids) = let own = child-childless h kid in let ih = kid-childless h (p + 1) kids in omega arith
-
--- What waits.
-
-child-at_place : (ns : List TreeNode) (p : ℕ) (F : List Entry) (c : Choice) (kid : Child NodeState) → node_at ns p ≡ kid_node F c kid → Each (IsAtPlace ns) (waiting_of (waiting_child p kid))
-child-at_place ns p F c (Placed node) at = (ap (λ (n : TreeNode). n.front) at, tt)
-child-at_place ns p F c (Shut j m why) at = tt
-
-pub kid-at_places : (P : Project) (ns : List TreeNode) (F : List Entry) (cs : List Choice) (kids : List (Child NodeState)) → AllZip (IsKid P F) cs kids →
-    (p : ℕ) → p ≡ length ns → Each (IsAtPlace (ns ++ kid_nodes F cs kids)) (waiting_of (placed_from p kids))
-kid-at_places P ns F [] [] z p e = tt
-kid-at_places P ns F [] (kid ∷ kids) z p e = absurd z
-kid-at_places P ns F (c ∷ cs) [] z p e = absurd z
-kid-at_places P ns F (c ∷ cs) (kid ∷ kids) z p e =
-    let n = kid_node F c kid in
-    let all : List TreeNode = ns ++ n ∷ kid_nodes F cs kids in
-    let len = length-append ns (n ∷ []) in
-    let own = child-at_place all p F c kid (get_or_at ns n (kid_nodes F cs kids) no_node p (sym e)) in
-    let ih = subst (λ (x : List TreeNode). Each (IsAtPlace x) (waiting_of (placed_from (p + 1) kids))) (append_assoc ns (n ∷ []) (kid_nodes F cs kids)) (kid-at_places P (ns ++ n ∷ []) F cs kids z.1 (p + 1) (omega arith)) in
-    subst (Each (IsAtPlace all)) (sym (waiting-append (waiting_child p kid) (placed_from (p + 1) kids)))
-    (Each-append (IsAtPlace all) (waiting_of (waiting_child p kid)) (waiting_of (placed_from (p + 1) kids)) own ih)
+-- and have their places
+pub kid-within : (low high p : ℕ) (kids : List (Child NodeState)) → low ≤ p → p + length kids ≤ high → Each (IsWithin low high) (waiting_of (placed_from p kids))
+kid-within low high p [] l h = tt
+kid-within low high p (kid ∷ kids) l h =
+    subst (Each (IsWithin low high)) (sym (waiting-append (waiting_child p kid) (placed_from (p + 1) kids)))
+    (Each-append (IsWithin low high) (waiting_of (waiting_child p kid)) (waiting_of (placed_from (p + 1) kids)) (child-within low high p kid l (omega arith)) (kid-within low high (p + 1) kids (omega arith) (omega arith)))
 
 All-append : {X : Type 0} (Q : X → Type 0) (xs ys : List X) → All Q xs → All Q ys → All Q (xs ++ ys)
 All-append Q [] ys a b = b

@@ -12,7 +12,6 @@ use Rattle.rcpsp_model.specs.declared.parts.Entry.{Entry}
 use Rattle.rcpsp_model.proofs.Lists.{In}
 use Rattle.precedence_tree.specs.declared.base.Base.{Base}
 use Rattle.cutset_store.specs.Index.{fronts_of}
-use Rattle.search_log.specs.declared.table.Table.{Table}
 use Rattle.search_log.specs.Weights.{Each}
 use Rattle.search_rounds.specs.declared.round.WaitingNode.{WaitingNode}
 use Rattle.search_rounds.specs.declared.round.PlacedRecord.{PlacedRecord}
@@ -30,12 +29,14 @@ use Rattle.steal_rounds.specs.declared.member.Member.{Member}
 use Rattle.steal_rounds.specs.declared.gathering.Shown.{Shown}
 use Rattle.steal_rounds.specs.declared.gathering.Published.{Published}
 use Rattle.steal_rounds.specs.declared.gathering.Whole.{Whole}
-use Rattle.steal_rounds.specs.Part.{PartState, part_state}
-use Rattle.steal_rounds.specs.Joined.{moved_fill, moved_record, joined_part}
+use Rattle.round_shares.specs.Part.{PartState}
+use Rattle.round_shares.specs.Crew.{real_fill, real_record}
+use Rattle.steal_rounds.specs.Lists.{part_state, new_part}
 use Rattle.steal_rounds.specs.Members.{progress_of, with_workers, IsSeated, AreSeated, Went}
-use Rattle.steal_rounds.specs.Whole.{IsOfTable, IsSound, joined_views, joined_parts, all_cited, by_worker, IsPublishedBy, ArePublishedBy, no_part, IsWholeOf}
+use Rattle.steal_rounds.specs.Whole.{IsOfTable, IsSound, joined_part, joined_views, all_cited, by_worker, IsPublishedBy, ArePublishedBy, IsWholeOf}
 use Rattle.steal_rounds.specs.Cited.{IsShown, IsPublished, ArePublished, IsToBeCited, AreToBeCited, AreFills}
-use Rattle.steal_rounds.proofs.ListPlaces.{get-inside, get-left, get-right, get-map, map-get}
+use Rattle.steal_rounds.proofs.JoinedMembers.{joined_parts, starts_in, whole-joined}
+use Rattle.round_shares.proofs.ListPlaces.{get-inside, get-left, get-right, get-map, map-get}
 
 -- The workers.
 
@@ -51,16 +52,16 @@ abbrev pub HaveWorked : Project → RowsState → ℕ → List Member → Type 0
 HaveWorked P rows number [] = Unit {0}
 HaveWorked P rows number (m ∷ ms) = HasWorked P rows number m × HaveWorked P rows (number + 1) ms
 
-pub all-worked : (P : Project) (t : Table) (records : Records) (rows : RowsState) (round : ℕ) (table : TableId) (v : PassView) (number : ℕ) (lists : List (Vec WaitingNode Global)) (before after : List Member) →
-    AreSeated table v number lists before → AllZip (Went P t records rows round) before after → Each IsSound after → HaveWorked P rows number after
-all-worked P t records rows round table v number [] [] [] s z a = tt
-all-worked P t records rows round table v number [] [] (m ∷ ms) s z a = absurd z
-all-worked P t records rows round table v number [] (b ∷ bs) after s z a = absurd s
-all-worked P t records rows round table v number (d ∷ ds) [] after s z a = absurd s
-all-worked P t records rows round table v number (d ∷ ds) (b ∷ bs) [] s z a = absurd z
-all-worked P t records rows round table v number (d ∷ ds) (b ∷ bs) (m ∷ ms) s z a = (worked s.0 z.0 a.0, all-worked P t records rows round table v (number + 1) ds bs ms s.1 z.1 a.1)
+pub all-worked : (P : Project) (records : Records) (rows : RowsState) (round : ℕ) (table : TableId) (v : PassView) (number : ℕ) (lists : List (Vec WaitingNode Global)) (before after : List Member) →
+    AreSeated table v number lists before → AllZip (Went P records rows round) before after → Each IsSound after → HaveWorked P rows number after
+all-worked P records rows round table v number [] [] [] s z a = tt
+all-worked P records rows round table v number [] [] (m ∷ ms) s z a = absurd z
+all-worked P records rows round table v number [] (b ∷ bs) after s z a = absurd s
+all-worked P records rows round table v number (d ∷ ds) [] after s z a = absurd s
+all-worked P records rows round table v number (d ∷ ds) (b ∷ bs) [] s z a = absurd z
+all-worked P records rows round table v number (d ∷ ds) (b ∷ bs) (m ∷ ms) s z a = (worked s.0 z.0 a.0, all-worked P records rows round table v (number + 1) ds bs ms s.1 z.1 a.1)
   where
-    worked : IsSeated table v number d.items b → Went P t records rows round b m → IsSound m → HasWorked P rows number m
+    worked : IsSeated table v number d.items b → Went P records rows round b m → IsSound m → HasWorked P rows number m
     worked seated went sound = record {
       pass_number = went.stays.number ∙ ap (λ (w : PassView). w.number) seated.pass;
       passes = went.stays.passes ∙ ap (λ (w : PassView). w.passes) seated.pass;
@@ -69,25 +70,25 @@ all-worked P t records rows round table v number (d ∷ ds) (b ∷ bs) (m ∷ ms
     }
 
 -- each pass stays one of the table, whether or not memory was refused
-pub tables-stay : (P : Project) (t : Table) (records : Records) (rows : RowsState) (round : ℕ) (table : TableId) (v : PassView) (number : ℕ) (lists : List (Vec WaitingNode Global)) (before after : List Member) →
-    AreSeated table v number lists before → AllZip (Went P t records rows round) before after → Each (IsOfTable table) after
-tables-stay P t records rows round table v number [] [] [] s z = tt
-tables-stay P t records rows round table v number [] [] (m ∷ ms) s z = absurd z
-tables-stay P t records rows round table v number [] (b ∷ bs) after s z = absurd s
-tables-stay P t records rows round table v number (d ∷ ds) [] after s z = absurd s
-tables-stay P t records rows round table v number (d ∷ ds) (b ∷ bs) [] s z = absurd z
-tables-stay P t records rows round table v number (d ∷ ds) (b ∷ bs) (m ∷ ms) s z =
-    (let went = z.0 in let seated = s.0 in went.pass_table ∙ seated.pass_table, tables-stay P t records rows round table v (number + 1) ds bs ms s.1 z.1)
+pub tables-stay : (P : Project) (records : Records) (rows : RowsState) (round : ℕ) (table : TableId) (v : PassView) (number : ℕ) (lists : List (Vec WaitingNode Global)) (before after : List Member) →
+    AreSeated table v number lists before → AllZip (Went P records rows round) before after → Each (IsOfTable table) after
+tables-stay P records rows round table v number [] [] [] s z = tt
+tables-stay P records rows round table v number [] [] (m ∷ ms) s z = absurd z
+tables-stay P records rows round table v number [] (b ∷ bs) after s z = absurd s
+tables-stay P records rows round table v number (d ∷ ds) [] after s z = absurd s
+tables-stay P records rows round table v number (d ∷ ds) (b ∷ bs) [] s z = absurd z
+tables-stay P records rows round table v number (d ∷ ds) (b ∷ bs) (m ∷ ms) s z =
+    (let went = z.0 in let seated = s.0 in went.pass_table ∙ seated.pass_table, tables-stay P records rows round table v (number + 1) ds bs ms s.1 z.1)
 
 -- there are as many workers as lists of nodes
-pub workers-many : (P : Project) (t : Table) (records : Records) (rows : RowsState) (round : ℕ) (table : TableId) (v : PassView) (number : ℕ) (lists : List (Vec WaitingNode Global)) (before after : List Member) →
-    AreSeated table v number lists before → AllZip (Went P t records rows round) before after → length after ≡ length lists
-workers-many P t records rows round table v number [] [] [] s z = refl
-workers-many P t records rows round table v number [] [] (m ∷ ms) s z = absurd z
-workers-many P t records rows round table v number [] (b ∷ bs) after s z = absurd s
-workers-many P t records rows round table v number (d ∷ ds) [] after s z = absurd s
-workers-many P t records rows round table v number (d ∷ ds) (b ∷ bs) [] s z = absurd z
-workers-many P t records rows round table v number (d ∷ ds) (b ∷ bs) (m ∷ ms) s z = ap suc (workers-many P t records rows round table v (number + 1) ds bs ms s.1 z.1)
+pub workers-many : (P : Project) (records : Records) (rows : RowsState) (round : ℕ) (table : TableId) (v : PassView) (number : ℕ) (lists : List (Vec WaitingNode Global)) (before after : List Member) →
+    AreSeated table v number lists before → AllZip (Went P records rows round) before after → length after ≡ length lists
+workers-many P records rows round table v number [] [] [] s z = refl
+workers-many P records rows round table v number [] [] (m ∷ ms) s z = absurd z
+workers-many P records rows round table v number [] (b ∷ bs) after s z = absurd s
+workers-many P records rows round table v number (d ∷ ds) [] after s z = absurd s
+workers-many P records rows round table v number (d ∷ ds) (b ∷ bs) [] s z = absurd z
+workers-many P records rows round table v number (d ∷ ds) (b ∷ bs) (m ∷ ms) s z = ap suc (workers-many P records rows round table v (number + 1) ds bs ms s.1 z.1)
 
 worked-at : (P : Project) (rows : RowsState) (number : ℕ) (ms : List Member) (k : ℕ) (m : Member) → HaveWorked P rows number ms → slice_get ms k ≡ Some m → HasWorked P rows (number + k) m
 worked-at P rows number [] k m h e = absurd cc
@@ -216,11 +217,11 @@ get-some (x ∷ xs) zero l = (x, refl)
 get-some (x ∷ xs) (suc i) l = get-some xs i (omega arith)
 
 -- a record of one worker has its front among the records of all
-made-stays : (table : ℕ) (s : PartState) (ms : List Member) (i : ℕ) (r : PlacedRecord) → slice_get s.made i ≡ Some r → slice_get (joined_parts table s ms).made i ≡ Some r
-made-stays table s [] i r e = e
-made-stays table s (m ∷ ms) i r e =
+made-stays : (starts : List ℕ) (s : PartState) (ms : List Member) (i : ℕ) (r : PlacedRecord) → slice_get s.made i ≡ Some r → slice_get (joined_parts starts s ms).made i ≡ Some r
+made-stays starts s [] i r e = e
+made-stays starts s (m ∷ ms) i r e =
     let t = part_state m.part in
-    made-stays table (joined_part table s t) ms i r (get-left s.made (map (moved_record table (length s.grown)) t.made) i (get-inside s.made i r e) ∙ e)
+    made-stays starts (joined_part starts s t) ms i r (get-left s.made (map (real_record starts) t.made) i (get-inside s.made i r e) ∙ e)
 
 record IsMadeAt (made : List PlacedRecord) (number : ℕ) (base : Base) : Type 0 where
   pub made_record : PlacedRecord
@@ -232,13 +233,13 @@ front-made made bases i base fronts e =
     let r = map-get (λ (r : PlacedRecord). r.known.front) made i base.front (ap (λ (fs : List (List Entry)). slice_get fs i) fronts ∙ get-map (λ (b : Base). b.front) bases i base e) in
     record { made_record = r.0; is_at = r.1; front = r.2 }
 
-made-joined : (table : ℕ) (s : PartState) (m : Member) (ms : List Member) (i : ℕ) (base : Base) → IsMadeAt m.part.made.items i base → IsMadeAt (joined_parts table s (m ∷ ms)).made (length s.made + i) base
-made-joined table s m ms i base is =
+made-joined : (starts : List ℕ) (s : PartState) (m : Member) (ms : List Member) (i : ℕ) (base : Base) → IsMadeAt m.part.made.items i base → IsMadeAt (joined_parts starts s (m ∷ ms)).made (length s.made + i) base
+made-joined starts s m ms i base is =
     let t = part_state m.part in
-    let move = moved_record table (length s.grown) in
+    let move = real_record starts in
     record {
       made_record = move is.made_record;
-      is_at = made-stays table (joined_part table s t) ms (length s.made + i) (move is.made_record) (get-right s.made (map move t.made) i ∙ get-map move t.made i is.made_record is.is_at);
+      is_at = made-stays starts (joined_part starts s t) ms (length s.made + i) (move is.made_record) (get-right s.made (map move t.made) i ∙ get-map move t.made i is.made_record is.is_at);
       front = is.front;
     }
 
@@ -247,11 +248,11 @@ abbrev pub HasFronts : Member → Type 0
 HasFronts m = map (λ r. r.known.front) m.part.made.items ≡ fronts_of m.worker.expanded
 
 -- what one worker published, behind the records s of those before it
-published-first : (P : Project) (rows : RowsState) (number table : ℕ) (s : PartState) (m : Member) (ms : List Member) (p : Published) → HasWorked P rows number m → HasFronts m →
-    IsPublishedBy (length s.made) m p → IsPublished rows (joined_parts table s (m ∷ ms)).made number p
-published-first P rows number table s m ms p worked fronts by = record { each = each }
+published-first : (P : Project) (rows : RowsState) (number : ℕ) (starts : List ℕ) (s : PartState) (m : Member) (ms : List Member) (p : Published) → HasWorked P rows number m → HasFronts m →
+    IsPublishedBy (length s.made) m p → IsPublished rows (joined_parts starts s (m ∷ ms)).made number p
+published-first P rows number starts s m ms p worked fronts by = record { each = each }
   where
-    each : (place : ℕ) (x : Shown) → slice_get p.shown.items place ≡ Some x → IsShown rows (joined_parts table s (m ∷ ms)).made number place (p.first + place) x.note
+    each : (place : ℕ) (x : Shown) → slice_get p.shown.items place ≡ Some x → IsShown rows (joined_parts starts s (m ∷ ms)).made number place (p.first + place) x.note
     each place x e =
         let own = map-get (by_worker m.pass.view.number) m.worker.notes place x (ap (λ (xs : List Shown). slice_get xs place) (sym by.shown) ∙ e) in
         let note = own.0 in
@@ -260,11 +261,11 @@ published-first P rows number table s m ms p worked fronts by = record { each = 
         let inside = get-inside m.worker.notes place note own.1 in
         let few = worked.work.within in
         let base = get-some m.worker.expanded place (omega arith) in
-        let made = made-joined table s m ms place base.0 (front-made m.part.made.items m.worker.expanded place base.0 fronts base.1) in
+        let made = made-joined starts s m ms place base.0 (front-made m.part.made.items m.worker.expanded place base.0 fronts base.1) in
         let number_is : length s.made + place ≡ p.first + place = ap (λ (k : ℕ). k + place) (sym by.first) in
         let cell : IsNoteOf rows number place note = subst (λ (k : ℕ). IsNoteOf rows k place note) worked.pass_number is.cell in
         let known : note.known ≡ Some base.0 = is.known ∙ base.1 in
-        let shown : IsShown rows (joined_parts table s (m ∷ ms)).made number place (length s.made + place) note = record {
+        let shown : IsShown rows (joined_parts starts s (m ∷ ms)).made number place (length s.made + place) note = record {
           cell = cell;
           made_record = made.made_record;
           is_at = made.is_at;
@@ -272,34 +273,35 @@ published-first P rows number table s m ms p worked fronts by = record { each = 
           known = known;
           front = made.front;
         } in
-        subst (λ (k : ℕ). IsShown rows (joined_parts table s (m ∷ ms)).made number place k x.note) number_is
-        (subst (IsShown rows (joined_parts table s (m ∷ ms)).made number place (length s.made + place)) same shown)
+        subst (λ (k : ℕ). IsShown rows (joined_parts starts s (m ∷ ms)).made number place k x.note) number_is
+        (subst (IsShown rows (joined_parts starts s (m ∷ ms)).made number place (length s.made + place)) same shown)
 
-published-from : (P : Project) (rows : RowsState) (number table : ℕ) (s : PartState) (ms : List Member) (ps : List Published) → HaveWorked P rows number ms → Each HasFronts ms →
-    ArePublishedBy (length s.made) ms ps → (k : ℕ) (p : Published) → slice_get ps k ≡ Some p → IsPublished rows (joined_parts table s ms).made (number + k) p
-published-from P rows number table s [] [] h f a k p e = absurd cc
-published-from P rows number table s [] (q ∷ ps) h f a k p e = absurd a
-published-from P rows number table s (m ∷ ms) [] h f a k p e = absurd a
-published-from P rows number table s (m ∷ ms) (q ∷ ps) h f a zero p e =
+published-from : (P : Project) (rows : RowsState) (number : ℕ) (starts : List ℕ) (s : PartState) (ms : List Member) (ps : List Published) → HaveWorked P rows number ms → Each HasFronts ms →
+    ArePublishedBy (length s.made) ms ps → (k : ℕ) (p : Published) → slice_get ps k ≡ Some p → IsPublished rows (joined_parts starts s ms).made (number + k) p
+published-from P rows number starts s [] [] h f a k p e = absurd cc
+published-from P rows number starts s [] (q ∷ ps) h f a k p e = absurd a
+published-from P rows number starts s (m ∷ ms) [] h f a k p e = absurd a
+published-from P rows number starts s (m ∷ ms) (q ∷ ps) h f a zero p e =
     let same : q ≡ p = cc in
     let here : number ≡ number + 0 = omega arith in
-    subst (λ (i : ℕ). IsPublished rows (joined_parts table s (m ∷ ms)).made i p) here
-    (subst (IsPublished rows (joined_parts table s (m ∷ ms)).made number) same (published-first P rows number table s m ms q h.0 f.0 a.0))
-published-from P rows number table s (m ∷ ms) (q ∷ ps) h f a (suc k) p e =
+    subst (λ (i : ℕ). IsPublished rows (joined_parts starts s (m ∷ ms)).made i p) here
+    (subst (IsPublished rows (joined_parts starts s (m ∷ ms)).made number) same (published-first P rows number starts s m ms q h.0 f.0 a.0))
+published-from P rows number starts s (m ∷ ms) (q ∷ ps) h f a (suc k) p e =
     let t = part_state m.part in
-    let move = moved_record table (length s.grown) in
+    let move = real_record starts in
     let here : number + 1 + k ≡ number + suc k = omega arith in
     let many : length s.made + length m.part.made.items ≡ length (s.made ++ map move t.made) = let l = length-append s.made (map move t.made) in let n = length-map t.made move in omega arith in
-    subst (λ (i : ℕ). IsPublished rows (joined_parts table s (m ∷ ms)).made i p) here
-    (published-from P rows (number + 1) table (joined_part table s t) ms ps h.1 f.1 (subst (λ (n : ℕ). ArePublishedBy n ms ps) many a.1) k p e)
+    subst (λ (i : ℕ). IsPublished rows (joined_parts starts s (m ∷ ms)).made i p) here
+    (published-from P rows (number + 1) starts (joined_part starts s t) ms ps h.1 f.1 (subst (λ (n : ℕ). ArePublishedBy n ms ps) many a.1) k p e)
 
 pub published-notes : (P : Project) (rows : RowsState) (table : ℕ) (after : List Member) (whole : Whole) → HaveWorked P rows 1 after → Each HasFronts after → IsWholeOf P table after whole →
     ArePublished rows whole.made.items whole.published.items
 published-notes P rows table after whole worked fronts is k p e =
     let here : 1 + k ≡ k + 1 = omega arith in
-    let made : (joined_parts table no_part after).made ≡ whole.made.items = ap (λ (s : PartState). s.made) (sym is.lists) in
+    let starts = starts_in table after in
+    let made : (joined_parts starts (new_part []) after).made ≡ whole.made.items = ap (λ (s : PartState). s.made) (sym (whole-joined P table after whole is)) in
     subst (λ (i : ℕ). IsPublished rows whole.made.items i p) here
-    (subst (λ (rs : List PlacedRecord). IsPublished rows rs (1 + k) p) made (published-from P rows 1 table no_part after whole.published.items worked fronts is.published k p e))
+    (subst (λ (rs : List PlacedRecord). IsPublished rows rs (1 + k) p) made (published-from P rows 1 starts (new_part []) after whole.published.items worked fronts is.published k p e))
 
 -- What is cited.
 
@@ -373,12 +375,12 @@ HasLive m = length m.part.live.items ≡ length m.worker.live
 abbrev pub HasFills : Member → Type 0
 HasFills m = AreFills (length m.part.fills.items) m.part.live.items
 
-live-many : (table : ℕ) (s : PartState) (ms : List Member) → Each HasLive ms → length (joined_parts table s ms).live ≡ length s.live + length (all_cited ms)
-live-many table s [] h = omega arith
-live-many table s (m ∷ ms) h =
+live-many : (starts : List ℕ) (s : PartState) (ms : List Member) → Each HasLive ms → length (joined_parts starts s ms).live ≡ length s.live + length (all_cited ms)
+live-many starts s [] h = omega arith
+live-many starts s (m ∷ ms) h =
     let t = part_state m.part in
     let own = h.0 in
-    let ih = live-many table (joined_part table s t) ms h.1 in
+    let ih = live-many starts (joined_part starts s t) ms h.1 in
     let a = length-append s.live (map (λ i. length s.fills + i) t.live) in
     let b = length-map t.live (λ i. length s.fills + i) in
     let c = length-append m.worker.live (all_cited ms) in
@@ -389,19 +391,21 @@ fills-behind n m k xs ys e a b =
     All-append (λ i. i < k) xs (map (λ i. n + i) ys) (All-weaker (λ i. i < n) (λ i. i < k) (λ i l. omega arith) xs a)
     (All-map (λ i. i < k) (λ i. n + i) ys (All-weaker (λ i. i < m) (λ i. n + i < k) (λ i l. omega arith) ys b))
 
-fills-joined : (table : ℕ) (s : PartState) (ms : List Member) → Each HasFills ms → AreFills (length s.fills) s.live → AreFills (length (joined_parts table s ms).fills) (joined_parts table s ms).live
-fills-joined table s [] h a = a
-fills-joined table s (m ∷ ms) h a =
+fills-joined : (starts : List ℕ) (s : PartState) (ms : List Member) → Each HasFills ms → AreFills (length s.fills) s.live → AreFills (length (joined_parts starts s ms).fills) (joined_parts starts s ms).live
+fills-joined starts s [] h a = a
+fills-joined starts s (m ∷ ms) h a =
     let t = part_state m.part in
-    let move = moved_fill table (length s.grown) in
+    let move = real_fill starts in
     let many : length (s.fills ++ map move t.fills) ≡ length s.fills + length t.fills = length-append s.fills (map move t.fills) ∙ ap (λ n. length s.fills + n) (length-map t.fills move) in
-    fills-joined table (joined_part table s t) ms h.1 (fills-behind (length s.fills) (length t.fills) (length (s.fills ++ map move t.fills)) s.live t.live many a h.0)
+    fills-joined starts (joined_part starts s t) ms h.1 (fills-behind (length s.fills) (length t.fills) (length (s.fills ++ map move t.fills)) s.live t.live many a h.0)
 
 pub live-fills : (P : Project) (table : ℕ) (after : List Member) (whole : Whole) → Each HasLive after → Each HasFills after → IsWholeOf P table after whole →
     (length whole.live.items ≡ length whole.cited.items) × AreFills (length whole.fills.items) whole.live.items
 live-fills P table after whole live fills is =
-    let lists : length whole.live.items ≡ length (joined_parts table no_part after).live = ap (λ (s : PartState). length s.live) is.lists in
+    let starts = starts_in table after in
+    let joined = whole-joined P table after whole is in
+    let lists : length whole.live.items ≡ length (joined_parts starts (new_part []) after).live = ap (λ (s : PartState). length s.live) joined in
     let cited : length whole.cited.items ≡ length (all_cited after) = ap (λ (ls : List LiveNote). length ls) is.cited in
-    let many = live-many table no_part after live in
-    let within = fills-joined table no_part after fills (All-nil (λ i. i < 0)) in
-    (omega arith, subst (λ (s : PartState). AreFills (length s.fills) s.live) (sym is.lists) within)
+    let many = live-many starts (new_part []) after live in
+    let within = fills-joined starts (new_part []) after fills (All-nil (λ i. i < 0)) in
+    (omega arith, subst (λ (s : PartState). AreFills (length s.fills) s.live) (sym joined) within)

@@ -24,12 +24,11 @@ use Rattle.search_rounds.specs.Round.{waiting_of}
 use Rattle.search_rounds.proofs.FilledSums.{Contains-left, Contains-right}
 use Rattle.tree_worker.specs.declared.live.LiveNote.{LiveNote}
 use Rattle.tree_worker.specs.Worker.{Progress}
-use Rattle.steal_rounds.specs.Ends.{end_in}
-use Rattle.steal_rounds.specs.Part.{Beginning, PartState, Event, says_event, IsExpansion, IsAtNode, IsEventOf, AreInTurns, IsCitedIn, by_earlier, by_own, IsCitedLive, IsMadeIn, IsOffered, IsPartAt, IsPart}
-use Rattle.steal_rounds.specs.Joined.{moved, moved_record}
+use Rattle.round_shares.specs.Ends.{end_in}
+use Rattle.round_shares.specs.Part.{Beginning, PartState, Event, says_event, IsExpansion, IsAtNode, IsEventOf, AreInTurns, IsCitedIn, by_earlier, by_own, IsCitedLive, IsMadeIn, IsOffered, IsPartAt, IsPart}
 use Rattle.steal_rounds.specs.Cited.{IsRowOf, with_cited, cited_rows}
 use Rattle.steal_rounds.proofs.PartLaws.{ResolveLaw}
-use Rattle.steal_rounds.proofs.ListPlaces.{get-In, get-map, zip-weaker}
+use Rattle.round_shares.proofs.ListPlaces.{get-In, get-map, zip-weaker}
 
 -- Lists of which one item is changed.
 
@@ -165,12 +164,11 @@ turns-resolved P events i q r t = record {
       omega arith;
   one = λ e f c d w x y same. t.one e f (expansion-before P events i q r e x c) (expansion-before P events i q r f y d) w x y same;
   own = λ e f c d w x y less. t.own e f (expansion-before P events i q r e x c) (expansion-before P events i q r f y d) w x y less;
-  before = λ e f x c d w le.
+  before = λ e f x c d w le from below.
       let a = was P events i q r e c in
       let turn = a.turn in
       let place = a.place in
-      let low = t.before a.event f x a.among (expansion-before P events i q r f x d) (a.worker ∙ w) (omega arith) in
-      omega arith;
+      t.before a.event f x a.among (expansion-before P events i q r f x d) (a.worker ∙ w) (omega arith) (omega arith) (omega arith);
 }
 
 cited-resolved : (P : Project) (b : Beginning) (events : List Event) (i q : ℕ) (r : Resolves P events i q) (p : ℕ) (F : List Entry) → IsCitedIn P b events p F → IsCitedIn P b (after P events i q r) p F
@@ -339,16 +337,3 @@ row_of-own P b at s i q m base live is made expanded known place =
       is_at = place;
       front = λ other k. (let same : Some base ≡ Some other = sym known ∙ k in let bases : base ≡ other = cc in fronts ∙ ap (λ (x : Base). x.front) bases);
     }
-
--- in a joined part it is that of the first, or that of the second, moved
-pub row_of-first : (made others : List PlacedRecord) (q : ℕ) (live : LiveNote) → IsRowOf made q live → IsRowOf (made ++ others) q live
-row_of-first made others q live is = record { made_record = is.made_record; among = Contains-left made others is.made_record is.among; is_at = is.is_at; front = is.front }
-
-pub row_of-second : (table grown : ℕ) (made others : List PlacedRecord) (q : ℕ) (live : LiveNote) → IsRowOf others q live → IsRowOf (made ++ map (moved_record table grown) others) (moved table grown q) live
-row_of-second table grown made others q live is = record {
-  made_record = moved_record table grown is.made_record;
-  among = Contains-right made (map (moved_record table grown) others) (moved_record table grown is.made_record)
-      (Contains-from_In (map (moved_record table grown) others) (moved_record table grown is.made_record) (In-map (moved_record table grown) others is.made_record (In-from_Contains others is.made_record is.among)));
-  is_at = ap (moved table grown) is.is_at;
-  front = is.front;
-}

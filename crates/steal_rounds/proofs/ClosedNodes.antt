@@ -27,10 +27,10 @@ use Rattle.tree_worker.specs.declared.answer.Close.{Close}
 use Rattle.tree_worker.specs.declared.answer.Close.TheVariants.{Leaf, TailBound, WorkBound, Cutset}
 use Rattle.tree_worker.specs.Worker.{Progress}
 use Rattle.tree_worker.specs.Visits.{Closes}
-use Rattle.steal_rounds.specs.Ends.{end_in}
+use Rattle.round_shares.specs.Ends.{end_in}
 use Rattle.steal_rounds.specs.Fates.{IsCitedWithin, IsLive, live_numbers, fate_in, places_of}
-use Rattle.steal_rounds.specs.Part.{Beginning, Event, IsCitedIn, by_earlier, by_own, IsCitedLive, IsMadeIn}
-use Rattle.steal_rounds.proofs.EndNumbers.{reaches-end}
+use Rattle.round_shares.specs.Part.{Beginning, Event, IsCitedIn, by_earlier, by_own, IsCitedLive, IsMadeIn}
+use Rattle.round_shares.proofs.EndNumbers.{reaches-end}
 use Rattle.steal_rounds.proofs.TailLimits.{tail-limit}
 use Rattle.steal_rounds.proofs.EventSteps.{made-at, get-new, live-more}
 

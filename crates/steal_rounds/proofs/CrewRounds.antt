@@ -8,20 +8,23 @@ use Rattle.std.proofs.lemmas.List.Sums.{sum_by-cons}
 use Rattle.std.proofs.lemmas.List.Sorted.{All-permutation, sum_by-IsPermutation}
 use Rattle.atomic_table.specs.Seated.{TableId}
 use Rattle.rcpsp_model.specs.declared.parts.Placing.{Placing}
+use Rattle.rcpsp_model.specs.declared.parts.Verdict.{Verdict}
 use Rattle.rcpsp_model.specs.Project.{Project}
 use Rattle.rcpsp_model.proofs.Lists.{In-All, In-from_Contains, Contains-from_In, All-from_In}
 use Rattle.precedence_tree.specs.Node.{StandsFor}
 use Rattle.search_log.specs.declared.row.Fill.{Fill}
 use Rattle.search_log.specs.declared.table.Table.{Table}
 use Rattle.search_log.specs.Weights.{total, Each}
+use Rattle.search_log.specs.Stands.{TreeNode, searching, Waiting, IsAtPlace, Stands}
 use Rattle.search_log.specs.Lean.{end_number}
+use Rattle.search_log.proofs.Sums.{Each-weaker}
 use Rattle.search_rounds.specs.declared.round.NewRow.{NewRow}
 use Rattle.search_rounds.specs.declared.round.WaitingNode.{WaitingNode}
 use Rattle.search_rounds.specs.declared.round.PlacedRecord.{PlacedRecord}
 use Rattle.search_rounds.specs.declared.round.Records.{Records}
 use Rattle.search_rounds.specs.declared.round.Terms.{Terms}
 use Rattle.search_rounds.specs.declared.round.RoundResult.{RoundResult}
-use Rattle.search_rounds.specs.Round.{IsRoundOn}
+use Rattle.search_rounds.specs.Round.{waiting_of, IsRound, IsRoundOn}
 use Rattle.search_table.specs.declared.view.PassView.{PassView}
 use Rattle.search_table.specs.declared.view.RoundTerms.{RoundTerms}
 use Rattle.search_table.specs.Lists.{least}
@@ -30,19 +33,25 @@ use Rattle.shared_rows.specs.Rows.{RowsState}
 use Rattle.tree_worker.specs.Worker.{Progress, HasPlan, new_worker}
 use Rattle.steal_rounds.specs.declared.member.Member.{Member}
 use Rattle.steal_rounds.specs.declared.gathering.Whole.{Whole}
-use Rattle.steal_rounds.specs.Ends.{end_in}
-use Rattle.steal_rounds.specs.Part.{Beginning, PartState, IsPart}
-use Rattle.steal_rounds.specs.Joined.{AreDealt}
-use Rattle.steal_rounds.specs.Dealt.{all_dealt}
+use Rattle.round_shares.specs.Ends.{end_in}
+use Rattle.round_shares.specs.Part.{Beginning, PartState, IsPart}
+use Rattle.round_shares.specs.Share.{room}
+use Rattle.round_shares.specs.Crew.{starts_from, crew_part, crew_progress}
+use Rattle.steal_rounds.specs.Lists.{new_part}
+use Rattle.steal_rounds.specs.Dealt.{all_dealt, AreDealt}
 use Rattle.steal_rounds.specs.Members.{with_workers, AreSeated, IsReady, Went}
-use Rattle.steal_rounds.specs.Whole.{whole_state, no_part, IsShort, IsOfTable, IsSound, joined_views, joined_parts, best_plan, IsWholeOf}
+use Rattle.steal_rounds.specs.Whole.{whole_state, IsShort, IsOfTable, IsSound, joined_views, best_plan, IsWholeOf}
 use Rattle.steal_rounds.specs.Cited.{ArePublished, AreToBeCited, AreFills, IsRowOf}
 use Rattle.steal_rounds.specs.Ended.{result_of, resolved_part, HasEnded}
 use Rattle.steal_rounds.specs.Settled.{Settles, EndsAs}
-use Rattle.steal_rounds.proofs.WiderParts.{begin-part}
+use Rattle.steal_rounds.proofs.PartSteps.{node-inside}
+use Rattle.steal_rounds.proofs.WiderParts.{in_order-each}
+use Rattle.steal_rounds.proofs.BegunShares.{AreBelowRoom}
+use Rattle.steal_rounds.proofs.JoinedMembers.{joined_parts, starts_in, whole-joined, crew_of, crew-dealt, crew-many, all_progress, crew-progress, crew-handed}
+use Rattle.round_shares.proofs.CrewParts.{crew_law}
 use Rattle.steal_rounds.proofs.ResolvedRounds.{resolved-round}
 use Rattle.steal_rounds.proofs.CitedNotes.{SeesNoMore, StandsForAll, all-worked, tables-stay, workers-many, passes-joined, published-notes, notes-to_cite, live-fills}
-use Rattle.steal_rounds.proofs.CrewParts.{crew_beginning, all-ready, all_progress, progress-pass, progress-live, parts-joined, HasEndedPart, all-ended, plans-short, sound-ended, fronts-of, lives-of, numbers-of, won-made, left-stand, plan-best, some-move}
+use Rattle.steal_rounds.proofs.CrewParts.{crew_beginning, all-ready, progress-pass, progress-live, shares-done, HasEndedPart, all-ended, plans-short, sound-ended, fronts-of, lives-of, numbers-of, won-made, left-stand, plan-best, some-move}
 
 -- the words of a round begin with its terms
 pub record Begins (terms : Terms) (workers : ℕ) (rows : RowsState) (words : RoundTerms) : Type 0 where
@@ -56,12 +65,13 @@ pub record Begins (terms : Terms) (workers : ℕ) (rows : RowsState) (words : Ro
 pub record Ran (P : Project) (table : Table) (records : Records) (terms : Terms) (workers : ℕ) (rows : RowsState) (words : TableId) (round : RoundTerms) (frontier : List WaitingNode) (lists : List (Vec WaitingNode Global)) (before after : List Member) : Type 0 where
   pub begins : Begins terms workers rows round
   pub soon : IfSome terms.best (λ end. end ≤ 1290000)
+  pub room : length table.rows ≤ 51200001
   pub some : 0 < length frontier
   pub quota : 0 < terms.quota
   pub many : length lists ≡ workers
   pub dealt : AreDealt frontier (all_dealt lists)
   pub seated : AreSeated words (first_view round) 1 lists before
-  pub went : AllZip (Went P table records rows terms.number) before after
+  pub went : AllZip (Went P records rows terms.number) before after
 
 dealt-nodes : (P : Project) (frontier dealt : List WaitingNode) → AreDealt frontier dealt → All (λ w. StandsFor P w.node) frontier → All (λ w. StandsFor P w.node) dealt
 dealt-nodes P frontier dealt d nodes =
@@ -71,21 +81,21 @@ pub list-many : (lists : Vec (Vec WaitingNode Global) Global) → length lists.i
 list-many lists = sym (lists.ok.0)
 
 -- before they begin
-pub begin-ready : (P : Project) (terms : Terms) (workers : ℕ) (rows : RowsState) (words : TableId) (round : RoundTerms) (frontier : List WaitingNode) (lists : List (Vec WaitingNode Global)) (ms : List Member) → Begins terms workers rows round →
+pub begin-ready : (P : Project) (terms : Terms) (workers : ℕ) (rows : RowsState) (words : TableId) (round : RoundTerms) (frontier : List WaitingNode) (lists : List (Vec WaitingNode Global)) (ms : List Member) → Begins terms workers rows round → workers ≤ 32 → length lists ≡ workers →
     AreDealt frontier (all_dealt lists) → All (λ w. StandsFor P w.node) frontier → AreSeated words (first_view round) 1 lists ms → All (IsReady P words rows) ms
-begin-ready P terms workers rows words round frontier lists ms b dealt nodes seated =
+begin-ready P terms workers rows words round frontier lists ms b few many dealt nodes seated =
     let q = b.quota in
     let c = b.cells in
-    all-ready P rows words (first_view round) 1 lists ms seated (omega arith) (b.of_words ∙ sym b.of_rows) (omega arith) (dealt-nodes P frontier (all_dealt lists) dealt nodes)
+    all-ready P rows words (first_view round) 1 lists ms seated (omega arith) (omega arith) (b.of_words ∙ sym b.of_rows) (omega arith) (dealt-nodes P frontier (all_dealt lists) dealt nodes)
 
 pub ran-passes : (P : Project) (table : Table) (records : Records) (terms : Terms) (workers : ℕ) (rows : RowsState) (words : TableId) (round : RoundTerms) (frontier : List WaitingNode) (lists : List (Vec WaitingNode Global)) (before after : List Member) →
     Ran P table records terms workers rows words round frontier lists before after → Each (IsOfTable words) after
-ran-passes P table records terms workers rows words round frontier lists before after r = tables-stay P table records rows terms.number words (first_view round) 1 lists before after r.seated r.went
+ran-passes P table records terms workers rows words round frontier lists before after r = tables-stay P records rows terms.number words (first_view round) 1 lists before after r.seated r.went
 
 ran-ended : (P : Project) (table : Table) (records : Records) (terms : Terms) (workers : ℕ) (rows : RowsState) (words : TableId) (round : RoundTerms) (frontier : List WaitingNode) (lists : List (Vec WaitingNode Global)) (before after : List Member) →
     Ran P table records terms workers rows words round frontier lists before after → Each (λ n. IsSound n → HasEndedPart P n) after
 ran-ended P table records terms workers rows words round frontier lists before after r =
-    all-ended P table records terms rows words (first_view round) 1 lists before after r.soon r.begins.start r.seated r.went
+    all-ended P records terms rows words (first_view round) 1 lists before after r.seated r.went
 
 pub ran-plans : (P : Project) (table : Table) (records : Records) (terms : Terms) (workers : ℕ) (rows : RowsState) (words : TableId) (round : RoundTerms) (frontier : List WaitingNode) (lists : List (Vec WaitingNode Global)) (before after : List Member) →
     Ran P table records terms workers rows words round frontier lists before after → Each (λ m. IsSound m → IfSome m.worker.plan (IsShort P)) after
@@ -101,13 +111,13 @@ pub record Gathered (P : Project) (table : Table) (records : Records) (terms : T
 
 many-after : (P : Project) (table : Table) (records : Records) (terms : Terms) (workers : ℕ) (rows : RowsState) (words : TableId) (round : RoundTerms) (frontier : List WaitingNode) (lists : List (Vec WaitingNode Global)) (before after : List Member) →
     Ran P table records terms workers rows words round frontier lists before after → length after ≡ workers
-many-after P table records terms workers rows words round frontier lists before after r = workers-many P table records rows terms.number words (first_view round) 1 lists before after r.seated r.went ∙ r.many
+many-after P table records terms workers rows words round frontier lists before after r = workers-many P records rows terms.number words (first_view round) 1 lists before after r.seated r.went ∙ r.many
 
 pub gathered-view : (P : Project) (table : Table) (records : Records) (terms : Terms) (workers : ℕ) (rows : RowsState) (words : TableId) (round : RoundTerms) (frontier : List WaitingNode) (lists : List (Vec WaitingNode Global)) (before after : List Member)
     (whole : Whole) (view : PassView) → Gathered P table records terms workers rows words round frontier lists before after whole view → StandsForAll round view
 gathered-view P table records terms workers rows words round frontier lists before after whole view g =
     let r = g.ran in
-    passes-joined P rows round workers (first_view round) view after refl (all-worked P table records rows terms.number words (first_view round) 1 lists before after r.seated r.went g.sound)
+    passes-joined P rows round workers (first_view round) view after refl (all-worked P records rows terms.number words (first_view round) 1 lists before after r.seated r.went g.sound)
     (many-after P table records terms workers rows words round frontier lists before after r) g.joined
 
 -- as the citing of live records wants it
@@ -121,7 +131,7 @@ pub gathered-citable : (P : Project) (table : Table) (records : Records) (terms 
     (whole : Whole) (view : PassView) → Gathered P table records terms workers rows words round frontier lists before after whole view → SeesNoMore workers view → AreCitable rows whole
 gathered-citable P table records terms workers rows words round frontier lists before after whole view g closed =
     let r = g.ran in
-    let worked = all-worked P table records rows terms.number words (first_view round) 1 lists before after r.seated r.went g.sound in
+    let worked = all-worked P records rows terms.number words (first_view round) 1 lists before after r.seated r.went g.sound in
     let ended = sound-ended P after (ran-ended P table records terms workers rows words round frontier lists before after r) g.sound in
     let fills = live-fills P (length table.rows) after whole (lives-of P after ended) (numbers-of P after ended) g.whole_is in
     record {
@@ -176,13 +186,21 @@ closed-best round view best tickets c e =
     let b = c.best_is in
     omega arith
 
+-- what was dealt lies on the table
+dealt-below : (table : Table) (ns : List TreeNode) (v : Verdict) (frontier dealt : List WaitingNode) → length table.rows ≤ 51200001 → AreDealt frontier dealt → (P : Project) → Stands P v table.rows ns [] (waiting_of frontier) →
+    AreBelowRoom (waiting_of dealt)
+dealt-below table ns v frontier dealt few d P st =
+    let size = st.size in
+    Each-weaker (IsAtPlace ns) (λ (w : Waiting). w.place < room) (waiting_of dealt) (λ w is. let l = node-inside ns w.place w.front is in omega arith) (in_order-each (IsAtPlace ns) frontier dealt d st.each_waiting)
+
 pub gathered-round : (P : Project) (table : Table) (records : Records) (terms : Terms) (workers : ℕ) (rows : RowsState) (words : TableId) (round : RoundTerms) (frontier : List WaitingNode) (lists : List (Vec WaitingNode Global)) (before after : List Member)
     (whole settled : Whole) (view : PassView) (best tickets : ℕ) → Gathered P table records terms workers rows words round frontier lists before after whole view → Closes round view best tickets → Settles whole settled →
     (result : RoundResult) → EndsAs settled best result → IsRoundOn P workers table records frontier terms result
-gathered-round P table records terms workers rows words round frontier lists before after whole settled view best tickets g c k result e =
-    subst (IsRoundOn P workers table records frontier terms)
+gathered-round P table records terms workers rows words round frontier lists before after whole settled view best tickets g c k result e ns stands origins records_of =
+    subst (λ (x : RoundResult). IsRound P workers table ns records frontier terms x)
     (sym (e.is ∙ same-result (record (whole_state settled) { left = e.left }) (record (resolved_part s k.places) { left = e.left }) settled.plan plan best k.grown k.fills refl k.made (k.plan ∙ g.whole_is.plan)))
-    (resolved-round P workers b frontier e.left at s k.places best plan (record { first = refl; last = refl }) r.dealt part rows_of ordered ended (All-permutation (λ (w : WaitingNode). StandsFor P w.node) s.left e.left order left))
+    (resolved-round P workers b frontier e.left at s k.places best plan (record { first = refl; last = refl }) r.dealt (part (dealt-below table ns (searching terms.best) frontier (all_dealt lists) r.room r.dealt P stands)) rows_of ordered ended
+    (All-permutation (λ (w : WaitingNode). StandsFor P w.node) s.left e.left order left) ns stands origins records_of)
   where
     r : Ran P table records terms workers rows words round frontier lists before after
     r = g.ran
@@ -211,8 +229,14 @@ gathered-round P table records terms workers rows words round frontier lists bef
     ordered : AreDealt s.left e.left
     ordered = permuted-dealt s.left e.left order
 
-    joined : s ≡ joined_parts (length table.rows) no_part after
-    joined = g.whole_is.lists
+    starts : List ℕ
+    starts = starts_in (length table.rows) after
+
+    joined : s ≡ joined_parts starts (new_part []) after
+    joined = whole-joined P (length table.rows) after whole g.whole_is
+
+    many : length after ≡ length lists
+    many = workers-many P records rows terms.number words (first_view round) 1 lists before after r.seated r.went
 
     pass : at.pass ≡ view
     pass = progress-pass at0 after ∙ sym g.joined
@@ -223,14 +247,18 @@ gathered-round P table records terms workers rows words round frontier lists bef
     start : round.start ≡ end_number terms.best
     start = r.begins.start
 
-    begun : IsPart P (crew_beginning table records terms [] 0) at0 no_part
-    begun = begin-part P (crew_beginning table records terms [] 0) at0 (record { seen = (let e = start in omega arith); offers = refl; expanded = refl; live = refl })
-
-    whole-part : IsPart P (crew_beginning table records terms (all_dealt lists) (0 + length lists)) at (joined_parts (length table.rows) no_part after)
-    whole-part = parts-joined P table records terms rows words (first_view round) 0 [] lists at0 no_part before after r.soon start r.seated r.went g.sound begun
-
-    part : IsPart P b at s
-    part = subst (IsPart P b at) (sym joined) (subst (λ (n : ℕ). IsPart P (crew_beginning table records terms (all_dealt lists) n) at (joined_parts (length table.rows) no_part after)) (let m = r.many in (let e : 0 + length lists ≡ workers = omega arith in e)) whole-part)
+    part : AreBelowRoom (waiting_of (all_dealt lists)) → IsPart P b at s
+    part below =
+        let ws = crew_of lists after in
+        let size = crew-many lists after many in
+        let all_many = r.many in
+        let rows_few = r.room in
+        let e = start in
+        let law : IsPart P b (crew_progress at0 ws) (crew_part (starts_from (length table.rows) ws) ws []) =
+        crew_law P b at0 ws [] r.soon (record { seen = omega arith; offers = refl; expanded = refl; live = refl }) (record { first = refl; last = omega arith; fits = omega arith })
+        (shares-done P table records terms rows words (first_view round) 1 workers (all_dealt lists) lists before after r.soon start (omega arith) below r.seated r.went g.sound) (crew-handed lists after many) in
+        subst (IsPart P b at) (crew-dealt (length table.rows) lists after many ∙ sym g.whole_is.lists)
+        (subst (λ (x : Progress). IsPart P b x (crew_part (starts_from (length table.rows) ws) ws [])) (crew-progress at0 lists after many) law)
 
     live : whole.cited.items ≡ at.worker.live
     live = g.whole_is.cited ∙ sym (progress-live at0 after)
@@ -242,11 +270,11 @@ gathered-round P table records terms workers rows words round frontier lists bef
     terms_of = (gathered-view P table records terms workers rows words round frontier lists before after whole view g).terms_of
 
     won : view.won ≡ length s.made
-    won = ap (λ (u : PassView). u.won) g.joined ∙ (won-made P (length table.rows) first no_part after all refl ∙ ap (λ (t : PartState). length t.made) (sym joined))
+    won = ap (λ (u : PassView). u.won) g.joined ∙ (won-made P starts first (new_part []) after all refl ∙ ap (λ (t : PartState). length t.made) (sym joined))
 
     moves : 0 < length s.fills + view.refused
     moves =
-        let m = some-move P table records rows terms.number words (first_view round) first 1 lists no_part before after r.seated r.went g.sound (inl (some-dealt frontier (all_dealt lists) r.dealt r.some)) in
+        let m = some-move P starts records rows terms.number words (first_view round) first 1 lists (new_part []) before after r.seated r.went g.sound (inl (some-dealt frontier (all_dealt lists) r.dealt r.some)) in
         let a = ap (λ (t : PartState). length t.fills) joined in
         let d = ap (λ (u : PassView). u.refused) g.joined in
         omega arith
@@ -255,7 +283,7 @@ gathered-round P table records terms workers rows words round frontier lists bef
     brings = subst (λ (u : PassView). HasPlan P u.offers plan) (sym g.joined) (plan-best P first None after all tt)
 
     left : All (λ w. StandsFor P w.node) s.left
-    left = subst (λ (t : PartState). All (λ (w : WaitingNode). StandsFor P w.node) t.left) (sym joined) (left-stand P (length table.rows) no_part after all (All-from_In (λ (w : WaitingNode). StandsFor P w.node) [] (λ w i. absurd i)))
+    left = subst (λ (t : PartState). All (λ (w : WaitingNode). StandsFor P w.node) t.left) (sym joined) (left-stand P starts (new_part []) after all (All-from_In (λ (w : WaitingNode). StandsFor P w.node) [] (λ w i. absurd i)))
 
     ended : HasEnded P b at s best plan
     ended =

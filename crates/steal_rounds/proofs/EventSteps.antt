@@ -14,7 +14,7 @@ use Rattle.search_rounds.specs.declared.round.PlacedRecord.{PlacedRecord}
 use Rattle.search_rounds.proofs.FilledSums.{Contains-left, Contains-right, zip-weaker}
 use Rattle.tree_worker.specs.declared.live.LiveNote.{LiveNote}
 use Rattle.steal_rounds.specs.Fates.{places_of}
-use Rattle.steal_rounds.specs.Part.{Beginning, Event, fills_of, IsExpansion, IsEventOf, IsSameWorker, AreInTurns, IsCitedIn, by_earlier, by_own, IsCitedLive, IsMadeIn, IsOffered}
+use Rattle.round_shares.specs.Part.{Beginning, Event, fills_of, IsExpansion, IsEventOf, IsSameWorker, IsNoChildOf, AreInTurns, IsCitedIn, by_earlier, by_own, IsCitedLive, IsMadeIn, IsOffered}
 
 pub pushed : (events : List Event) (x e : Event) → Contains (events ++ x ∷ []) e → Contains events e ⊎ (x ≡ e)
 pushed events x e c = elim (In-push events x e (In-from_Contains (events ++ x ∷ []) e c)) [ inl i ↦ inl (Contains-from_In events e i) | inr same ↦ inr same ]
@@ -41,7 +41,7 @@ pairs Q events x old last first own e f a b =
     ]
 
 pub turns-push : (P : Project) (events : List Event) (x : Event) → AreInTurns P events → x.fill.origin.turn ≡ length events + 1 →
-    ((e : Event) → Contains events e → IsExpansion e → IsExpansion x → Dominates P e.front x.front → ⊥) → ((e : Event) (y : IsExpansion x) → Contains (events ++ x ∷ []) e → e.fill.place < y.first) →
+    ((e : Event) → Contains events e → IsExpansion e → IsExpansion x → Dominates P e.front x.front → ⊥) → ((e : Event) (y : IsExpansion x) → Contains (events ++ x ∷ []) e → IsNoChildOf x y e.fill.place) →
     AreInTurns P (events ++ x ∷ [])
 turns-push P events x t turn own before = record {
   few = λ e c. elim (pushed events x e c) [
@@ -52,7 +52,7 @@ turns-push P events x t turn own before = record {
       (λ e i w u v same. absurd (let a = t.few e i in omega arith)) (λ f i w u v same. absurd (let a = t.few f i in omega arith)) (λ w u v same. refl);
   own = λ e f a b w u v. pairs (λ e f. IsSameWorker e f → IsExpansion e → IsExpansion f → e.fill.origin.turn < f.fill.origin.turn → Dominates P e.front f.front → ⊥) events x (λ e f i k. t.own e f i k)
       (λ e i w u v less. own e i u v) (λ f i w u v less. absurd (let a = t.few f i in omega arith)) (λ w u v less. absurd (omega arith)) e f a b w u v;
-  before = λ e f y a b w. pairs (λ e f. (y : IsExpansion f) → IsSameWorker e f → e.fill.origin.turn ≤ f.fill.origin.turn → e.fill.place < y.first) events x (λ e f i k y. t.before e f y i k)
+  before = λ e f y a b w. pairs (λ e f. (y : IsExpansion f) → IsSameWorker e f → e.fill.origin.turn ≤ f.fill.origin.turn → IsNoChildOf f y e.fill.place) events x (λ e f i k y. t.before e f y i k)
       (λ e i y w le. before e y (old-event events x e i)) (λ f i y w le. absurd (let a = t.few f i in omega arith)) (λ y w le. before x y (new-event events x)) e f a b y w;
 }
 

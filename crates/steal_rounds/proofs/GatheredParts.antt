@@ -9,9 +9,10 @@ use Rattle.tree_worker.specs.declared.live.LiveNote.{LiveNote}
 use Rattle.steal_rounds.specs.declared.member.Member.{Member}
 use Rattle.steal_rounds.specs.declared.gathering.Published.{Published}
 use Rattle.steal_rounds.specs.declared.gathering.Whole.{Whole}
-use Rattle.steal_rounds.specs.Part.{PartState}
-use Rattle.steal_rounds.specs.Joined.{moved_record}
-use Rattle.steal_rounds.specs.Whole.{whole_state, better_plan, IsShort, joined_parts, all_cited, ArePublishedBy, best_plan, AddsMember}
+use Rattle.round_shares.specs.Part.{PartState}
+use Rattle.round_shares.specs.Crew.{real_record}
+use Rattle.steal_rounds.specs.Whole.{whole_state, better_plan, IsShort, all_cited, ArePublishedBy, best_plan, AddsMember}
+use Rattle.steal_rounds.proofs.JoinedMembers.{joined_parts}
 
 pub short-better : (P : Project) (p q : Option (List Placing)) → IfSome p (IsShort P) → IfSome q (IsShort P) → IfSome (better_plan P p q) (IsShort P)
 short-better P None q a b = b
@@ -23,21 +24,21 @@ short-better P (Some s) (Some t) a b = by (nat_lt (end_of P (entries t)) (end_of
     by false e = subst (λ (z : Bool). IfSome (if z then Some t else Some s) (IsShort P)) (sym e) a
 
 -- of the members that are left, the first was added
-pub record Gathers (P : Project) (table : ℕ) (old new : Whole) (m : Member) (rest : List Member) : Type 0 where
-  pub lists : joined_parts table (whole_state new) rest ≡ joined_parts table (whole_state old) (m ∷ rest)
+pub record Gathers (P : Project) (starts : List ℕ) (old new : Whole) (m : Member) (rest : List Member) : Type 0 where
+  pub lists : joined_parts starts (whole_state new) rest ≡ joined_parts starts (whole_state old) (m ∷ rest)
   pub cited : new.cited.items ++ all_cited rest ≡ old.cited.items ++ all_cited (m ∷ rest)
   pub published : (ps : List Published) → ArePublishedBy (length new.made.items) rest ps → (more : List Published) × ArePublishedBy (length old.made.items) (m ∷ rest) more × (new.published.items ++ ps ≡ old.published.items ++ more)
   pub plan : best_plan P new.plan rest ≡ best_plan P old.plan (m ∷ rest)
 
-pub gathers : (P : Project) (table : ℕ) (old new : Whole) (m : Member) (rest : List Member) → AddsMember P table m old new → Gathers P table old new m rest
-gathers P table old new m rest a = record {
-  lists = ap (λ (s : PartState). joined_parts table s rest) a.lists;
+pub gathers : (P : Project) (starts : List ℕ) (old new : Whole) (m : Member) (rest : List Member) → AddsMember P starts m old new → Gathers P starts old new m rest
+gathers P starts old new m rest a = record {
+  lists = ap (λ (s : PartState). joined_parts starts s rest) a.lists;
   cited = ap (λ (xs : List LiveNote). xs ++ all_cited rest) a.cited ∙ append_assoc old.cited.items m.worker.live (all_cited rest);
   published = λ ps are.
-      let made : new.made.items ≡ old.made.items ++ map (moved_record table (length old.grown.items)) m.part.made.items = ap (λ (s : PartState). s.made) a.lists in
+      let made : new.made.items ≡ old.made.items ++ map (real_record starts) m.part.made.items = ap (λ (s : PartState). s.made) a.lists in
       let count = ap length made in
-      let la = length-append old.made.items (map (moved_record table (length old.grown.items)) m.part.made.items) in
-      let lm = length-map m.part.made.items (moved_record table (length old.grown.items)) in
+      let la = length-append old.made.items (map (real_record starts) m.part.made.items) in
+      let lm = length-map m.part.made.items (real_record starts) in
       let many : length new.made.items ≡ length old.made.items + length m.part.made.items = omega arith in
       (a.by ∷ ps, (a.is_by, subst (λ (n : ℕ). ArePublishedBy n rest ps) many are), ap (λ (xs : List Published). xs ++ ps) a.published ∙ append_assoc old.published.items (a.by ∷ []) ps);
   plan = ap (λ (p : Option (List Placing)). best_plan P p rest) a.plan;

@@ -8,21 +8,11 @@ use Rattle.search_log.specs.Stands.{TreeNode}
 use Rattle.search_rounds.specs.declared.round.WaitingNode.{WaitingNode}
 use Rattle.search_rounds.specs.Round.{IsRoundOn}
 use Rattle.tree_worker.specs.Worker.{HasPlan, Progress}
-use Rattle.steal_rounds.specs.Part.{Beginning, BeginsOn, PartState, IsPart}
-use Rattle.steal_rounds.specs.Joined.{joined_part, joined_beginning, joined_progress, IsNextTo, AreDealt, new_part, IsFresh}
+use Rattle.round_shares.specs.Part.{Beginning, BeginsOn, PartState, IsPart}
+use Rattle.steal_rounds.specs.Dealt.{AreDealt}
 use Rattle.steal_rounds.specs.Whole.{better_plan}
 use Rattle.steal_rounds.specs.Cited.{IsRowOf}
 use Rattle.steal_rounds.specs.Ended.{result_of, IsWholeCrew, HasEnded, resolved_part, resolved_progress}
-
--- what has just begun is a part
-abbrev pub BeginLaw : Type 0
-BeginLaw = (P : Project) (b : Beginning) (at : Progress) → IsFresh b at → IsPart P b at (new_part b.dealt)
-
--- two parts of workers side by side, joined, are a part
-abbrev pub JoinLaw : Type 0
-JoinLaw =
-    (P : Project) (b c : Beginning) (at now : Progress) (s t : PartState) → IfSome b.terms.best (λ end. end ≤ 1290000) → IsNextTo b c → IsPart P b at s → IsPart P c now t →
-    IsPart P (joined_beginning b c) (joined_progress at now) (joined_part (length b.table.rows) s t)
 
 -- the better of two plans is one of what both have offered
 abbrev pub PlansLaw : Type 0

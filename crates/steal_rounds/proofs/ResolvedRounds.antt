@@ -3,7 +3,7 @@ use Rattle.std.proofs.Common.{◌≡◌, ℕ, refl, ◌∙◌, arith, List, [], 
 use Rattle.std.proofs.Common.{length-set}
 use Rattle.search_log.specs.declared.row.Fill.{Fill}
 use Rattle.search_log.specs.Stands.{IsAtPlace}
-use Rattle.steal_rounds.specs.Part.{Beginning, BeginsOn}
+use Rattle.round_shares.specs.Part.{Beginning, BeginsOn}
 use Rattle.steal_rounds.specs.Cited.{with_cited, cited_rows}
 use Rattle.steal_rounds.specs.Ended.{resolved_part, resolved_progress}
 use Rattle.steal_rounds.proofs.PartLaws.{ResolvedRoundLaw}

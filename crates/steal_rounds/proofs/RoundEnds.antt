@@ -35,12 +35,12 @@ use Rattle.search_rounds.specs.declared.round.PlacedRecord.{PlacedRecord}
 use Rattle.search_rounds.specs.Round.{waiting_of, IsRecordOf, AreRecords, VisitedIn}
 use Rattle.search_rounds.proofs.FilledSums.{closed-not_open, length-fill_rows, expanded-filled}
 use Rattle.tree_worker.specs.Worker.{Progress}
-use Rattle.steal_rounds.specs.Ends.{end_in}
+use Rattle.round_shares.specs.Ends.{end_in}
 use Rattle.steal_rounds.specs.Ended.{result_of}
-use Rattle.steal_rounds.specs.Part.{Beginning, IsByOneOf, PartState, Event, fills_of, says_event, IsExpansion, IsAtNode, IsCitedIn, by_earlier, by_own, IsMadeIn, IsNewSaying, IsNewRow, IsPartAt, IsPart}
-use Rattle.steal_rounds.proofs.EndNumbers.{end-small, later-end, no_later-end}
+use Rattle.round_shares.specs.Part.{Beginning, IsByOneOf, PartState, Event, fills_of, says_event, IsExpansion, IsAtNode, IsCitedIn, by_earlier, by_own, IsMadeIn, IsNewSaying, IsNewRow, IsPartAt, IsPart}
+use Rattle.round_shares.proofs.EndNumbers.{end-small, later-end, no_later-end}
 use Rattle.steal_rounds.proofs.PartSteps.{front-more, grows-later}
-use Rattle.steal_rounds.proofs.ListPlaces.{Each-at, In-get}
+use Rattle.round_shares.proofs.ListPlaces.{Each-at, In-get}
 
 -- A part at its end, on a table that stands for the nodes ns.
 pub record Ending (P : Project) (b : Beginning) (ns : List TreeNode) (at : Progress) (s : PartState) (best : ℕ) : Type 0 where

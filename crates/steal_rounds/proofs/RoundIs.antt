@@ -35,11 +35,11 @@ use Rattle.search_table.specs.Lists.{least}
 use Rattle.search_rounds.specs.Round.{waiting_of, IsLeanRound, IsAmong, BringsPlan, VisitedIn, line_after, IsRound}
 use Rattle.search_rounds.proofs.FilledSums.{line-expanded, length-fill_rows}
 use Rattle.tree_worker.specs.Worker.{HasPlan, Progress}
-use Rattle.steal_rounds.specs.Ends.{end_in}
+use Rattle.round_shares.specs.Ends.{end_in}
 use Rattle.steal_rounds.specs.Ended.{IsWholeCrew, HasEnded, result_of}
 use Rattle.steal_rounds.proofs.PartLaws.{RoundLaw}
-use Rattle.steal_rounds.specs.Part.{Beginning, IsByOneOf, PartState, Event, IsSameWorker, says_event, IsExpansion, IsAtNode, IsEventOf, IsOffered}
-use Rattle.steal_rounds.proofs.EndNumbers.{end_in-none, end_in-some, number-end_in, end-small, no_later-end}
+use Rattle.round_shares.specs.Part.{Beginning, IsByOneOf, PartState, Event, IsSameWorker, says_event, IsExpansion, IsAtNode, IsEventOf, IsOffered}
+use Rattle.round_shares.proofs.EndNumbers.{end_in-none, end_in-some, number-end_in, end-small, no_later-end}
 use Rattle.steal_rounds.proofs.WiderParts.{begins-on, in_order-part}
 use Rattle.steal_rounds.proofs.RoundWords.{some-fills}
 use Rattle.steal_rounds.proofs.RoundEnds.{Ending, grown_table, mid, event-written, after_rows, after_origins, grows-end, after, ByEvent, ByParent, ExpandedEvent, visited-cases, event-at, leaf-said, said-of, shut-line, expanded-event, event-front, end-cites, end-made, end-made_all, end-used}
@@ -107,7 +107,9 @@ end-lean P workers b ns at s best one last k = record {
               let i = parent_law P (searching (end_in best)) (after_rows b s) (ns ++ k.at_tree.more) (waiting_of s.left) q p F c (after P b ns at s best k) w.within v.within f branch in
               let says : says_at (after_rows b s) q ≡ row_expanded e.expansion.first e.expansion.count = e.by.says ∙ e.expansion.is in
               let j : In (numbers_from e.expansion.first e.expansion.count) p = subst (λ (z : RowSaying). In (children_of z) p) says (In-from_Contains (children_of (says_at (after_rows b s) q)) p i) in
-              let low = (numbers-range e.expansion.first e.expansion.count p j).0 in
+              let range = numbers-range e.expansion.first e.expansion.count p j in
+              let low = range.0 in
+              let high = range.1 in
               let et = ap (λ (o : Origin). o.turn) e.by.origin in
               let ht = ap (λ (o : Origin). o.turn) h.origin in
               let same : IsSameWorker h.event e.by.event = ap (λ (o : Origin). o.worker) (sym h.origin) ∙ (sym u ∙ ap (λ (o : Origin). o.worker) e.by.origin) in
@@ -115,7 +117,7 @@ end-lean P workers b ns at s best one last k = record {
               elim (cases_lt e.by.event.fill.origin.turn h.event.fill.origin.turn) [
                 | inl less ↦ omega arith
                 | inr over ↦ absurd (
-                    let before = k.at_tree.turns.before h.event e.by.event e.expansion (Contains-from_In k.at_tree.events h.event h.among) (Contains-from_In k.at_tree.events e.by.event e.by.among) same over in omega arith)
+                    k.at_tree.turns.before h.event e.by.event e.expansion (Contains-from_In k.at_tree.events h.event h.among) (Contains-from_In k.at_tree.events e.by.event e.by.among) same over (omega arith) (omega arith))
               ])
         ];
       };

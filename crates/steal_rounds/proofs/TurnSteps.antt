@@ -1,12 +1,12 @@
--- What a turn makes of a part.
-use Rattle.std.proofs.Common.{◌≡◌, ℕ, ◌+◌, ◌<◌, ◌≤◌, ◌⊎◌, inl, inr, refl, sym, ap, subst, ◌∙◌, arith, List, [], ◌∷◌, ◌++◌, length, length-append, append_assoc, map, All, Option, Some}
+-- What a turn makes of a share.
+use Rattle.std.proofs.Common.{◌≡◌, ℕ, ◌+◌, ◌-◌, ◌<◌, ◌≤◌, ◌⊎◌, inl, inr, refl, sym, ap, subst, ◌∙◌, arith, List, [], ◌∷◌, ◌++◌, length, length-append, map, All}
 use Rattle.std.specs.Prelude.{IfSome, Contains}
 use Rattle.std.specs.List.{AllZip}
 use Rattle.std.proofs.lemmas.List.{length-map, map-append}
 use Rattle.std.proofs.lemmas.List.Elements.{All-cons, All-nil, All-head, All-tail}
 use Rattle.rcpsp_model.specs.declared.parts.Child.{Child}
 use Rattle.rcpsp_model.specs.declared.parts.Entry.{Entry}
-use Rattle.rcpsp_model.specs.Project.{Project, IsProject, numbers_from}
+use Rattle.rcpsp_model.specs.Project.{Project, IsProject}
 use Rattle.rcpsp_model.specs.Tree.{IsLeaf, AreChildren, choices}
 use Rattle.rcpsp_model.specs.Dominance.{Dominates}
 use Rattle.rcpsp_model.proofs.Lists.{In, In-All, In-from_Contains, Contains-from_In}
@@ -19,23 +19,18 @@ use Rattle.precedence_tree.specs.Children.{child_fronts}
 use Rattle.cutset_store.specs.Index.{fronts_of}
 use Rattle.search_log.specs.declared.row.RowFate.{RowFate}
 use Rattle.search_log.specs.declared.row.RowFate.TheVariants as fate
-use Rattle.search_log.specs.declared.row.Row.{Row}
 use Rattle.search_log.specs.declared.row.Origin.{Origin}
 use Rattle.search_log.specs.declared.row.Fill.{Fill}
-use Rattle.search_log.specs.declared.table.Table.{Table}
-use Rattle.search_log.specs.Weights.{total, over, Each}
 use Rattle.search_log.specs.Fates.{row_expanded, row_saying}
-use Rattle.search_log.specs.Table.{says_row, row_at}
-use Rattle.search_log.specs.Stands.{TreeNode, place_front, HasChildren, searching, Suits, RowSuits, FillSuits, IsAtPlace, if_open, Grows, one_expanded}
-use Rattle.search_log.specs.Lean.{none_yet, end_number}
-use Rattle.search_log.proofs.Sums.{total-append, Each-append, Each-In, numbers-total}
+use Rattle.search_log.specs.Stands.{TreeNode, HasChildren, searching, one_expanded}
+use Rattle.search_log.specs.Lean.{end_number}
+use Rattle.search_log.proofs.Sums.{total-append}
 use Rattle.search_log.proofs.GrownTables.{child_places_law}
 use Rattle.search_rounds.specs.declared.round.NewRow.{NewRow}
 use Rattle.search_rounds.specs.declared.round.WaitingNode.{WaitingNode}
 use Rattle.search_rounds.specs.declared.round.PlacedRecord.{PlacedRecord}
 use Rattle.search_rounds.specs.declared.round.Records.{Records}
-use Rattle.search_rounds.specs.Round.{waiting_of}
-use Rattle.search_rounds.proofs.FilledSums.{Contains-left, Contains-right}
+use Rattle.search_rounds.proofs.FilledSums.{Contains-left, Contains-right, zip-length}
 use Rattle.shared_rows.specs.Rows.{RowsState}
 use Rattle.tree_worker.specs.declared.answer.Cite.TheVariants.{Earlier, Own, Live}
 use Rattle.tree_worker.specs.declared.answer.Close.{Close}
@@ -43,15 +38,17 @@ use Rattle.tree_worker.specs.declared.answer.Close.TheVariants.{Leaf, TailBound,
 use Rattle.tree_worker.specs.Worker.{Progress}
 use Rattle.tree_worker.specs.Reasons.{IsOpen}
 use Rattle.tree_worker.specs.Visits.{Closes}
-use Rattle.steal_rounds.specs.Ends.{end_in}
-use Rattle.steal_rounds.specs.Children.{row_of_child, new_row, placed_from}
+use Rattle.round_shares.specs.Ends.{end_in}
+use Rattle.round_shares.specs.Part.{Beginning, IsByOneOf, PartState, Event, says_event, IsExpansion, IsCitedLive, IsMadeIn, HasRecord, IsOffered}
+use Rattle.round_shares.specs.Share.{room, first_place, IsPast, IsRowFor, SuitsFront, Handled, IsShare}
+use Rattle.steal_rounds.specs.Children.{new_row, placed_from}
 use Rattle.steal_rounds.specs.Fates.{IsLive, live_numbers, fate_in, places_of}
-use Rattle.steal_rounds.specs.Part.{Beginning, IsByOneOf, PartState, Event, says_event, IsExpansion, IsAtNode, IsCitedLive, IsMadeIn, HasRecord, IsOffered, IsNewRow, IsPartAt, IsPart}
-use Rattle.steal_rounds.specs.Turns.{ExpandsAs, beginning, KeepsPart}
-use Rattle.steal_rounds.proofs.EndNumbers.{end-small, later-end}
-use Rattle.steal_rounds.proofs.ChildRows.{kid_nodes, IsKid, AreKids-from, kid-branches, kid-length, kid-rows, waiting-append, waiting-weight, kid-waiting, kid-childless, kid-at_places, rows-of_new, kid-new}
+use Rattle.steal_rounds.specs.Turns.{ExpandsAs, beginning, KeepsShare}
+use Rattle.round_shares.proofs.EndNumbers.{end-small, later-end}
+use Rattle.steal_rounds.proofs.ChildRows.{kid_nodes, IsKid, AreKids-from, kid-branches, kid-length, kid-rows, kid-born, kid-within, rows-of_new, kid-new}
 use Rattle.steal_rounds.proofs.EventSteps.{pushed, new-event, made-more, live-more, offered-more, later-event, fills-length}
-use Rattle.steal_rounds.proofs.PartSteps.{node-inside, front-more, at_place-more, closed-grows, expanded-grows, grows-later, next_at}
+use Rattle.steal_rounds.proofs.ShareNodes.{front-closed, suits-later, closed-nodes, expanded-nodes, no-child, visited-past, head-past}
+use Rattle.steal_rounds.proofs.ShareSteps.{next_share}
 use Rattle.steal_rounds.proofs.ClosedNodes.{never-expanded, closed-as, OffersIts, closed-offers, closed-live}
 
 abbrev pub part_by : List NewRow → List Fill → List ℕ → List PlacedRecord → List WaitingNode → PartState
@@ -66,8 +63,8 @@ same_part s t a b l c d =
 abbrev pub fill_by : ℕ → RowFate → Origin → Fill
 fill_by place fate origin = record { place = place; fate = fate; origin = origin }
 
-events-many : {s : PartState} (P : Project) (b : Beginning) (ns : List TreeNode) (at : Progress) (old : IsPartAt P b ns at s) → length s.fills ≡ length old.events
-events-many P b ns at old = ap length old.fills ∙ fills-length old.events
+events-many : {s : PartState} (P : Project) (b : Beginning) (h : Handled) (at : Progress) (old : IsShare P b h at s) → length s.fills ≡ length old.events
+events-many P b h at old = ap length old.fills ∙ fills-length old.events
 
 -- A node is closed.
 
@@ -93,28 +90,26 @@ offered-now P b events x before after a (inr its) =
     subst (All (IsOffered P b (events ++ x ∷ []))) (sym its.offers)
     (All-cons (IsOffered P b (events ++ x ∷ [])) _ before (record { event = x; among = new-event events x; leaf = its.leaf; is = refl; less = its.less; soon = its.soon }) (offered-more P b events x before a))
 
-closed-at : (P : Project) (rows : RowsState) (best : ℕ) (b : Beginning) (origin : Origin) (w : WaitingNode) (at now : Progress) (s : PartState) (close : Close) → IsProject P → StandsFor P w.node →
+closed-share : (P : Project) (rows : RowsState) (best : ℕ) (b : Beginning) (h : Handled) (origin : Origin) (w : WaitingNode) (at now : Progress) (s : PartState) (close : Close) → IsProject P → StandsFor P w.node →
     length b.records.places ≡ length b.records.index → best ≤ at.pass.least_seen → now.pass.least_seen ≤ best → origin.turn ≡ length s.fills + 1 → origin.round ≡ b.terms.number → IsByOneOf b origin →
-    Closes P (fronts_of b.records.index) rows best w.node.front at now close → at.pass.least_seen ≤ end_number b.terms.best → IfSome b.terms.best (λ end. end ≤ 1290000) →
-    map (λ m. m.known.front) s.made ≡ fronts_of at.worker.expanded → (ns : List TreeNode) → IsPartAt P b ns at (waits_part s w) →
-    IsPartAt P b ns now (closed_part s w (fill_by w.place (fate_in b.records.places (places_of s.made) close) origin) close)
-closed-at P rows best b origin w at now s close p stands places low falls turn round worker c start soon fronts ns old =
+    Closes P (fronts_of b.records.index) rows best w.node.front at now close → now.worker.expanded ≡ at.worker.expanded → IfSome b.terms.best (λ end. end ≤ 1290000) → IsShare P b h at (waits_part s w) →
+    IsShare P b h now (closed_part s w (fill_by w.place (fate_in b.records.places (places_of s.made) close) origin) close)
+closed-share P rows best b h origin w at now s close p stands places low falls turn round worker c same soon old =
     let F = w.node.front in
-    let facts = closed-as P b old.events s.made rows best w.node at now close p stands places old.made fronts falls c in
+    let start = old.falls in
+    let facts = closed-as P b old.events s.made rows best w.node at now close p stands places old.made old.fronts falls c in
     let f : Fill = fill_by w.place (fate_in b.records.places (places_of s.made) close) origin in
     let x : Event = record { fill = f; front = F } in
     let small = end-small b.terms.best soon in
     let later = later-end at.pass.least_seen now.pass.least_seen (omega arith) (omega arith) in
-    let front : place_front (ns ++ old.more) w.place ≡ Some F = old.grows.each_left.0 in
-    let suits : FillSuits P (searching (end_in now.pass.least_seen)) (ns ++ old.more) f = record {
-      within = node-inside (ns ++ old.more) w.place F front;
-      closed = facts.closed;
-      says = subst (λ (o : Option (List Entry)). Suits P (searching (end_in now.pass.least_seen)) (ns ++ old.more) o (row_saying f.fate)) (sym front) (facts.suits (ns ++ old.more));
-    } in
-    let many = events-many P b ns at old in
-    next_at P b ns at now (waits_part s w) (closed_part s w f close) x old old.more (λ q G e. e) refl
-    (closed-grows P (end_in at.pass.least_seen) (end_in now.pass.least_seen) b.table.rows (map (λ n. n.row) s.grown) ns old.more (waiting_of b.dealt) w s.left s.fills f later old.grows refl facts.childless suits)
-    front (omega arith)
+    let many = events-many P b h at old in
+    next_share P b h at now (waits_part s w) (closed_part s w f close) x old old.more refl (omega arith) (old.fronts ∙ sym (ap fronts_of same))
+    (let a = total-append (λ (y : Fill). one_expanded (row_saying y.fate)) s.fills (f ∷ []) in
+    let e = old.expanded in
+    let z = never-expanded b.records.places (places_of s.made) close in
+    omega arith)
+    (closed-nodes P b h at now s.grown s.fills s.live (s.live ++ live_numbers (length s.fills) close) s.made w s.left x old later refl facts.childless
+    (front-closed P (searching (end_in now.pass.least_seen)) (first_place b.first_worker) old.more F (row_saying f.fate) facts.suits facts.closed facts.childless facts.plain))
     (record { round = round; worker = worker; leaf = facts.leaf; early = λ y. absurd (facts.plain y.first y.count y.is); new = λ y. absurd (facts.plain y.first y.count y.is) })
     (omega arith) (λ e i u v. absurd (facts.plain v.first v.count v.is)) (λ e y i. absurd (facts.plain y.first y.count y.is))
     (λ q says. elim (facts.cites q says) [ inl k ↦ inl k | inr l ↦ inr (live-now s close (length old.events) many l) ]) (λ i k. Contains-left s.live (live_numbers (length s.fills) close) i k)
@@ -122,65 +117,52 @@ closed-at P rows best b origin w at now s close p stands places low falls turn r
     (closed-live P (fronts_of b.records.index) rows best at now close b.records.places (places_of s.made) old.events x s.live refl c old.live)) (made-more P old.events x s.made old.made)
     (λ e i y. elim (pushed old.events x e i) [
       | inl k ↦ old.made_all e k y
-      | inr same ↦ absurd (facts.plain y.first y.count (ap says_event same ∙ y.is))
+      | inr here ↦ absurd (facts.plain y.first y.count (ap says_event here ∙ y.is))
     ])
     (offered-now P b old.events x at.pass.offers now.pass.offers old.offered
     (closed-offers P (fronts_of b.records.index) b.records.places (places_of s.made) rows best (end_number b.terms.best) F at now close (omega arith) (front-end P F p.limits stands.front) c))
 
-pub closed-keeps : (P : Project) (rows : RowsState) (best : ℕ) (table : Table) (records : Records) (origin : Origin) (w : WaitingNode) (at now : Progress) (s t : PartState) (close : Close) → IsProject P → StandsFor P w.node →
+pub closed-keeps : (P : Project) (rows : RowsState) (best : ℕ) (records : Records) (origin : Origin) (w : WaitingNode) (at now : Progress) (s t : PartState) (close : Close) → IsProject P → StandsFor P w.node →
     length records.places ≡ length records.index → best ≤ at.pass.least_seen → now.pass.least_seen ≤ best → origin.turn ≡ length s.fills + 1 →
     Closes P (fronts_of records.index) rows best w.node.front at now close → now.worker.expanded ≡ at.worker.expanded →
     t ≡ closed_part s w (fill_by w.place (fate_in records.places (places_of s.made) close) origin) close →
-    KeepsPart P table records origin (record { at = at; part = waits_part s w }) (record { at = now; part = t })
-closed-keeps P rows best table records origin w at now s t close p stands places low falls turn c same is dealt terms number soon old =
+    KeepsShare P records origin (record { at = at; part = waits_part s w }) (record { at = now; part = t })
+closed-keeps P rows best records origin w at now s t close p stands places low falls turn c same is table dealt terms h number soon old =
     let b = beginning table records origin.worker dealt terms in
-    let f : Fill = fill_by w.place (fate_in records.places (places_of s.made) close) origin in
-    let start = old.falls in
-    subst (IsPart P b now) (sym is) (record {
-      falls = omega arith;
-      rows = old.rows;
-      fronts = old.fronts ∙ sym (ap fronts_of same);
-      expanded =
-          let a = total-append (λ (y : Fill). one_expanded (row_saying y.fate)) s.fills (f ∷ []) in
-          let e = old.expanded in
-          let z = never-expanded records.places (places_of s.made) close in
-          omega arith;
-      at_tree = λ ns st. closed-at P rows best b origin w at now s close p stands places low falls turn (sym number) (record { from = omega arith; to = omega arith }) c start soon old.fronts ns (old.at_tree ns st);
-    })
+    subst (IsShare P b h now) (sym is)
+    (closed-share P rows best b h origin w at now s close p stands places low falls turn (sym number) (record { from = omega arith; to = omega arith }) c same soon old)
 
 -- A node comes back.
 
-pub back-keeps : (P : Project) (table : Table) (records : Records) (origin : Origin) (w : WaitingNode) (at now : Progress) (s t : PartState) → now.pass.least_seen ≤ at.pass.least_seen → now.pass.offers ≡ at.pass.offers →
+pub back-keeps : (P : Project) (records : Records) (origin : Origin) (w : WaitingNode) (at now : Progress) (s t : PartState) → now.pass.least_seen ≤ at.pass.least_seen → now.pass.offers ≡ at.pass.offers →
     now.worker.expanded ≡ at.worker.expanded → now.worker.live ≡ at.worker.live → t ≡ waits_part s w →
-    KeepsPart P table records origin (record { at = at; part = waits_part s w }) (record { at = now; part = t })
-back-keeps P table records origin w at now s t falls offers same live is dealt terms number soon old =
+    KeepsShare P records origin (record { at = at; part = waits_part s w }) (record { at = now; part = t })
+back-keeps P records origin w at now s t falls offers same live is table dealt terms h number soon old =
     let b = beginning table records origin.worker dealt terms in
     let start = old.falls in
     let small = end-small terms.best soon in
-    subst (IsPart P b now) (sym is) (record {
+    let later = later-end at.pass.least_seen now.pass.least_seen (omega arith) falls in
+    subst (IsShare P b h now) (sym is) (record {
+      more = old.more;
+      events = old.events;
+      fills = old.fills;
       falls = omega arith;
+      new = old.new;
       rows = old.rows;
       fronts = old.fronts ∙ sym (ap fronts_of same);
       expanded = old.expanded;
-      at_tree = λ ns st. back ns (old.at_tree ns st) (omega arith);
+      account = old.account;
+      once = old.once;
+      past = old.past;
+      suits = suits-later P (end_in at.pass.least_seen) (end_in now.pass.least_seen) (first_place b.first_worker) old.more old.events later old.suits;
+      each = later-event P b at.pass.least_seen now.pass.least_seen old.events falls old.each;
+      turns = old.turns;
+      cites = old.cites;
+      live = subst (AllZip (IsCitedLive P old.events) s.live) (sym live) old.live;
+      made = old.made;
+      made_all = old.made_all;
+      offered = subst (All (IsOffered P b old.events)) (sym offers) old.offered;
     })
-  where
-    back : (ns : List TreeNode) → IsPartAt P (beginning table records origin.worker dealt terms) ns at (waits_part s w) → at.pass.least_seen ≤ none_yet →
-        IsPartAt P (beginning table records origin.worker dealt terms) ns now (waits_part s w)
-    back ns o small = record {
-      more = o.more;
-      events = o.events;
-      fills = o.fills;
-      grows = grows-later P (end_in at.pass.least_seen) (end_in now.pass.least_seen) table.rows (map (λ n. n.row) s.grown) ns o.more (waiting_of dealt) (waiting_of (w ∷ s.left)) s.fills (later-end at.pass.least_seen now.pass.least_seen small falls) o.grows;
-      at_nodes = o.at_nodes;
-      each = later-event P (beginning table records origin.worker dealt terms) at.pass.least_seen now.pass.least_seen o.events falls o.each;
-      turns = o.turns;
-      cites = o.cites;
-      live = subst (AllZip (IsCitedLive P o.events) s.live) (sym live) o.live;
-      made = o.made;
-      made_all = o.made_all;
-      offered = subst (All (IsOffered P (beginning table records origin.worker dealt terms) o.events)) (sym offers) o.offered;
-    }
 
 -- A node is expanded.
 
@@ -219,90 +201,50 @@ pub record Expanding (P : Project) (earlier : List Base) (best : ℕ) (node : No
 abbrev expansion_fill : WaitingNode → List (Child NodeState) → ℕ → Origin → Fill
 expansion_fill w kids first origin = fill_by w.place (fate.Expanded (length kids) first) origin
 
-expansion-suits : (P : Project) (least : ℕ) (ns : List TreeNode) (w : WaitingNode) (kids : List (Child NodeState)) (first : ℕ) (origin : Origin) → (IsLeaf P w.node.front → ⊥) →
-    AllZip (IsKid P w.node.front) (choices P w.node.front) kids → first ≡ length ns → place_front ns w.place ≡ Some w.node.front →
-    FillSuits P (searching (end_in least)) (ns ++ kid_nodes w.node.front (choices P w.node.front) kids) (expansion_fill w kids first origin)
-expansion-suits P least ns w kids first origin inner z base front =
+expanded_parts : (a b c d : ℕ) → row_expanded a b ≡ row_expanded c d → (a ≡ c) × (b ≡ d)
+expanded_parts a b c d e = (cc, cc)
+
+-- the children have rows among those that came, behind those that were there
+expansion-suits : (P : Project) (least start : ℕ) (more : List TreeNode) (w : WaitingNode) (kids : List (Child NodeState)) (first : ℕ) → (IsLeaf P w.node.front → ⊥) → AllZip (IsKid P w.node.front) (choices P w.node.front) kids →
+    first ≡ start + length more → SuitsFront P (searching (end_in least)) start (more ++ kid_nodes w.node.front (choices P w.node.front) kids) w.node.front (row_expanded first (length kids))
+expansion-suits P least start more w kids first inner z base =
     let F = w.node.front in
     let most = kid_nodes F (choices P F) kids in
-    let inside = node-inside ns w.place F front in
-    let len = length-append ns most in
-    let has : HasChildren P (ns ++ most) F (length ns) (length most) = child_places_law P ns most F inner (kid-branches P F (choices P F) kids z) in
-    let count : HasChildren P (ns ++ most) F first (length kids) =
-    subst (λ (n : ℕ). HasChildren P (ns ++ most) F n (length kids)) (sym base) (subst (HasChildren P (ns ++ most) F (length ns)) (kid-length P F (choices P F) kids z) has) in
-    record {
-      within = omega arith;
-      closed = tt;
-      says = subst (λ (o : Option (List Entry)). Suits P (searching (end_in least)) (ns ++ most) o (row_expanded first (length kids))) (sym (front-more ns most w.place F front)) count;
-    }
+    let has : HasChildren P (more ++ most) F (length more) (length most) = child_places_law P more most F inner (kid-branches P F (choices P F) kids z) in
+    let place : length more ≡ first - start = omega arith in
+    (omega arith, subst (λ (n : ℕ). HasChildren P (more ++ most) F n (length kids)) place (subst (HasChildren P (more ++ most) F (length more)) (kid-length P F (choices P F) kids z) has))
 
-expansion-grows : (P : Project) (b : Beginning) (origin : Origin) (w : WaitingNode) (at now : Progress) (s : PartState) (kids : List (Child NodeState)) (first : ℕ) → (IsLeaf P w.node.front → ⊥) →
-    AllZip (IsKid P w.node.front) (choices P w.node.front) kids → first ≡ length b.table.rows + length s.grown → at.pass.least_seen ≤ none_yet → now.pass.least_seen ≤ at.pass.least_seen → (ns : List TreeNode) → length ns ≡ length b.table.rows →
-    (old : IsPartAt P b ns at (waits_part s w)) →
-    Grows P (searching (end_in now.pass.least_seen)) b.table.rows ns (waiting_of b.dealt) (map (λ n. n.row) (s.grown ++ map (new_row origin) kids)) (old.more ++ kid_nodes w.node.front (choices P w.node.front) kids)
-    (s.fills ++ expansion_fill w kids first origin ∷ []) (waiting_of (placed_from first kids ++ s.left))
-expansion-grows P b origin w at now s kids first inner z base small falls ns size old =
-    let F = w.node.front in
-    let cs = choices P F in
-    let N : List TreeNode = ns ++ old.more in
-    let most = kid_nodes F cs kids in
-    let rows : List Row = map (λ (n : NewRow). n.row) s.grown in
-    let two = map row_of_child kids in
-    let L = length (b.table.rows ++ rows) in
-    let f = expansion_fill w kids first origin in
-    let lr = length-append b.table.rows rows in
-    let lm = length-map s.grown (λ (n : NewRow). n.row) in
-    let ln = length-append ns old.more in
-    let sm = old.grows.size in
-    let same : first ≡ L = omega arith in
-    let nodes : length N ≡ L = omega arith in
-    let many = length-map kids row_of_child in
-    let front : place_front N w.place ≡ Some F = old.grows.each_left.0 in
-    let joined : rows ++ two ≡ map (λ (n : NewRow). n.row) (s.grown ++ map (new_row origin) kids) =
-    ap (λ (x : List Row). rows ++ x) (sym (rows-of_new origin kids)) ∙ sym (map-append (λ (n : NewRow). n.row) s.grown (map (new_row origin) kids)) in
-    subst (λ (x : List Row). Grows P (searching (end_in now.pass.least_seen)) b.table.rows ns (waiting_of b.dealt) x (old.more ++ most) (s.fills ++ f ∷ []) (waiting_of (placed_from first kids ++ s.left))) joined
-    (expanded-grows P (end_in at.pass.least_seen) (end_in now.pass.least_seen) b.table.rows rows two ns old.more most (waiting_of b.dealt) w (placed_from first kids) s.left s.fills f size
-    (later-end at.pass.least_seen now.pass.least_seen small falls) old.grows refl (kid-length P F cs kids z ∙ sym many)
-    (λ h. numbers-total h L two ∙ (ap (λ (n : ℕ). total h (numbers_from n (length two))) (sym same) ∙ ap (λ (n : ℕ). total h (numbers_from first n)) many))
-    (λ h. kid-childless h L kids)
-    (λ h.
-    let a = waiting-weight h (placed_from first kids) s.left in
-    let c = kid-waiting h first kids in
-    let d = ap (λ (n : ℕ). over (λ k r. if_open (says_row r) (h k)) n two) same in
-    omega arith)
-    (λ i l. subst (λ (n : ℕ). RowSuits P (searching (end_in now.pass.least_seen)) (N ++ most) (n + i) (row_at two i)) nodes (kid-rows P (searching (end_in now.pass.least_seen)) N F cs kids z i (omega arith)))
-    (expansion-suits P now.pass.least_seen N w kids first origin inner z (omega arith) front)
-    (subst (Each (IsAtPlace (N ++ most))) (sym (waiting-append (placed_from first kids) s.left))
-    (Each-append (IsAtPlace (N ++ most)) (waiting_of (placed_from first kids)) (waiting_of s.left) (kid-at_places P N F cs kids z first (omega arith)) (at_place-more N most (waiting_of s.left) old.grows.each_left.1))))
-
-expanded_first : (a b c d : ℕ) → row_expanded a b ≡ row_expanded c d → a ≡ c
-expanded_first a b c d e = cc
-
-expanded-at : (P : Project) (best : ℕ) (b : Beginning) (origin : Origin) (w : WaitingNode) (at now : Progress) (s : PartState) (kids : List (Child NodeState)) (known : Base) (first : ℕ) → best ≤ at.pass.least_seen → now.pass.least_seen ≤ best →
-    origin.turn ≡ length s.fills + 1 → origin.round ≡ b.terms.number → IsByOneOf b origin → first ≡ length b.table.rows + length s.grown → Expanding P b.records.index best w.node at now kids known →
-    at.pass.least_seen ≤ end_number b.terms.best → IfSome b.terms.best (λ end. end ≤ 1290000) →
-    map (λ m. m.known.front) s.made ≡ fronts_of at.worker.expanded → (ns : List TreeNode) → length ns ≡ length b.table.rows → IsPartAt P b ns at (waits_part s w) →
-    IsPartAt P b ns now (part_by (s.grown ++ map (new_row origin) kids) (s.fills ++ expansion_fill w kids first origin ∷ []) s.live (s.made ++ record { place = w.place; known = known } ∷ []) (placed_from first kids ++ s.left))
-expanded-at P best b origin w at now s kids known first low falls turn round worker base e start soon fronts ns size old =
+expanded-share : (P : Project) (best : ℕ) (b : Beginning) (h : Handled) (origin : Origin) (w : WaitingNode) (at now : Progress) (s : PartState) (kids : List (Child NodeState)) (known : Base) (first : ℕ) → best ≤ at.pass.least_seen →
+    now.pass.least_seen ≤ best → origin.turn ≡ length s.fills + 1 → origin.round ≡ b.terms.number → IsByOneOf b origin → first ≡ first_place b.first_worker + length s.grown → length s.grown + length kids ≤ room →
+    Expanding P b.records.index best w.node at now kids known → IfSome b.terms.best (λ end. end ≤ 1290000) → IsShare P b h at (waits_part s w) →
+    IsShare P b h now (part_by (s.grown ++ map (new_row origin) kids) (s.fills ++ expansion_fill w kids first origin ∷ []) s.live (s.made ++ record { place = w.place; known = known } ∷ []) (placed_from first kids ++ s.left))
+expanded-share P best b h origin w at now s kids known first low falls turn round worker base fits e soon old =
     let F = w.node.front in
     let z = AreKids-from P F (choices P F) kids e.are in
     let most = kid_nodes F (choices P F) kids in
+    let news : List NewRow = map (new_row origin) kids in
     let f = expansion_fill w kids first origin in
     let v : Event = record { fill = f; front = F } in
     let m : PlacedRecord = record { place = w.place; known = known } in
     let expansion : IsExpansion v = record { first = first; count = length kids; is = refl } in
+    let start = old.falls in
     let small = end-small b.terms.best soon in
-    let front : place_front (ns ++ old.more) w.place ≡ Some F = old.grows.each_left.0 in
-    let stable : (p : ℕ) (G : List Entry) → place_front (ns ++ old.more) p ≡ Some G → place_front (ns ++ (old.more ++ most)) p ≡ Some G =
-    (λ p G h. subst (λ (N : List TreeNode). place_front N p ≡ Some G) (append_assoc ns old.more most) (front-more (ns ++ old.more) most p G h)) in
-    let many = events-many P b ns at old in
+    let later = later-end at.pass.least_seen now.pass.least_seen (omega arith) (omega arith) in
+    let many = events-many P b h at old in
+    let nodes = zip-length (IsRowFor P) old.more (map (λ (n : NewRow). n.row) s.grown) old.rows in
     let lm = length-map s.grown (λ (n : NewRow). n.row) in
-    let ln = length-append ns old.more in
-    let sm = old.grows.size in
-    let bound : first ≡ length (ns ++ old.more) = omega arith in
-    next_at P b ns at now (waits_part s w) _ v old (old.more ++ most) stable refl
-    (expansion-grows P b origin w at now s kids first e.inner z base (omega arith) (omega arith) ns size old)
-    (stable w.place F front) (omega arith)
+    let ln : length news ≡ length kids = length-map kids (new_row origin) in
+    next_share P b h at now (waits_part s w) _ v old (old.more ++ most) refl (omega arith)
+    (map-append (λ (y : PlacedRecord). y.known.front) s.made (m ∷ [])
+    ∙ (ap (λ (fs : List (List Entry)). fs ++ known.front ∷ []) old.fronts
+    ∙ (sym (map-append (λ (y : Base). y.front) at.worker.expanded (known ∷ [])) ∙ sym (ap fronts_of e.kept))))
+    (let a = total-append (λ (y : Fill). one_expanded (row_saying y.fate)) s.fills (f ∷ []) in
+    let n = old.expanded in
+    let l = length-append s.made (m ∷ []) in
+    omega arith)
+    (expanded-nodes P b h at now s.grown news s.fills s.live s.made (s.made ++ m ∷ []) w (placed_from first kids) s.left v most first old later refl base (ap (row_expanded first) (sym ln)) (kid-new b origin kids round worker)
+    (subst (AllZip (IsRowFor P) most) (sym (rows-of_new origin kids)) (kid-rows P F (choices P F) kids z)) (kid-born P F (choices P F) kids z first)
+    (kid-within first (first + length news) first kids (omega arith) (omega arith)) (expansion-suits P now.pass.least_seen (first_place b.first_worker) old.more w kids first e.inner z (omega arith)))
     (record {
       round = round;
       worker = worker;
@@ -311,14 +253,16 @@ expanded-at P best b origin w at now s kids known first low falls turn round wor
       new = λ y. All-of_fronts P F b.records.index e.is_open.new_to_earlier;
     })
     (omega arith)
-    (λ g i u y. own-new P F s.made at.worker.expanded g fronts e.is_open.new_to_own (old.made_all g i u))
-    (λ g y i.
-    let same = expanded_first first (length kids) y.first y.count y.is in
-    let inside : g.fill.place < length (ns ++ old.more) = elim (pushed old.events v g i) [
-      | inl k ↦ node-inside (ns ++ old.more) g.fill.place g.front (Each-In (IsAtNode (ns ++ old.more)) old.events g old.at_nodes (In-from_Contains old.events g k))
-      | inr here ↦ subst (λ (y : Event). y.fill.place < length (ns ++ old.more)) here (node-inside (ns ++ old.more) w.place F front)
+    (λ g i u y. own-new P F s.made at.worker.expanded g old.fronts e.is_open.new_to_own (old.made_all g i u))
+    (λ g y i from below.
+    let same = expanded_parts first (length kids) y.first y.count y.is in
+    let first_is = same.0 in
+    let count_is = same.1 in
+    let past : IsPast (first_place b.first_worker) (length s.grown) g.fill.place = elim (pushed old.events v g i) [
+      | inl k ↦ visited-past P b h at (waits_part s w) old g (In-from_Contains old.events g k)
+      | inr here ↦ subst (λ (y : Event). IsPast (first_place b.first_worker) (length s.grown) y.fill.place) here (head-past P b h at s.grown s.fills s.live s.made w s.left old)
     ] in
-    omega arith)
+    no-child (first_place b.first_worker) (length s.grown) g.fill.place first (length kids) past base fits (omega arith) (omega arith))
     (λ q says. absurd cc) (λ i k. k) (subst (AllZip (IsCitedLive P (old.events ++ v ∷ [])) s.live) (sym e.live) (live-more P old.events v s.live at.worker.live old.live))
     (All-push (IsMadeIn P (old.events ++ v ∷ [])) s.made m (made-more P old.events v s.made old.made) (record { event = v; among = new-event old.events v; is = record { expansion = expansion; place = refl; front = e.front; known = e.known } }))
     (λ g i u. elim (pushed old.events v g i) [
@@ -327,28 +271,12 @@ expanded-at P best b origin w at now s kids known first low falls turn round wor
     ])
     (subst (All (IsOffered P b (old.events ++ v ∷ []))) (sym e.offers) (offered-more P b old.events v at.pass.offers old.offered))
 
-pub expanded-keeps : (P : Project) (best : ℕ) (table : Table) (records : Records) (origin : Origin) (w : WaitingNode) (at now : Progress) (s t : PartState) (kids : List (Child NodeState)) (known : Base) (first : ℕ) → best ≤ at.pass.least_seen →
-    now.pass.least_seen ≤ best → origin.turn ≡ length s.fills + 1 → first ≡ length table.rows + length s.grown → Expanding P records.index best w.node at now kids known → ExpandsAs w.place known kids first origin s t →
-    KeepsPart P table records origin (record { at = at; part = waits_part s w }) (record { at = now; part = t })
-expanded-keeps P best table records origin w at now s t kids known first low falls turn base e x dealt terms number soon old =
+pub expanded-keeps : (P : Project) (best : ℕ) (records : Records) (origin : Origin) (w : WaitingNode) (at now : Progress) (s t : PartState) (kids : List (Child NodeState)) (known : Base) (first : ℕ) → best ≤ at.pass.least_seen →
+    now.pass.least_seen ≤ best → origin.turn ≡ length s.fills + 1 → first ≡ first_place origin.worker + length s.grown → length s.grown + length kids ≤ room → Expanding P records.index best w.node at now kids known →
+    ExpandsAs w.place known kids first origin s t → KeepsShare P records origin (record { at = at; part = waits_part s w }) (record { at = now; part = t })
+expanded-keeps P best records origin w at now s t kids known first low falls turn base fits e x table dealt terms h number soon old =
     let b = beginning table records origin.worker dealt terms in
     let m : PlacedRecord = record { place = w.place; known = known } in
-    let f = expansion_fill w kids first origin in
-    let start = old.falls in
-    let u : PartState = part_by (s.grown ++ map (new_row origin) kids) (s.fills ++ f ∷ []) s.live (s.made ++ m ∷ []) (placed_from first kids ++ s.left) in
-    subst (IsPart P b now) (sym (same_part t u x.grown x.fills x.live x.made x.left)) (record {
-      falls = omega arith;
-      rows = Each-append (IsNewRow b) s.grown (map (new_row origin) kids) old.rows (kid-new b origin kids (sym number) (record { from = omega arith; to = omega arith }));
-      fronts =
-          map-append (λ (y : PlacedRecord). y.known.front) s.made (m ∷ [])
-          ∙ (ap (λ (fs : List (List Entry)). fs ++ known.front ∷ []) old.fronts
-          ∙ (sym (map-append (λ (y : Base). y.front) at.worker.expanded (known ∷ [])) ∙ sym (ap fronts_of e.kept)));
-      expanded =
-          let a = total-append (λ (y : Fill). one_expanded (row_saying y.fate)) s.fills (f ∷ []) in
-          let n = old.expanded in
-          let l = length-append s.made (m ∷ []) in
-          omega arith;
-      at_tree = λ ns st.
-          let size = st.size in
-          expanded-at P best b origin w at now s kids known first low falls turn (sym number) (record { from = omega arith; to = omega arith }) base e start soon old.fronts ns size (old.at_tree ns st);
-    })
+    let u : PartState = part_by (s.grown ++ map (new_row origin) kids) (s.fills ++ expansion_fill w kids first origin ∷ []) s.live (s.made ++ m ∷ []) (placed_from first kids ++ s.left) in
+    subst (IsShare P b h now) (sym (same_part t u x.grown x.fills x.live x.made x.left))
+    (expanded-share P best b h origin w at now s kids known first low falls turn (sym number) (record { from = omega arith; to = omega arith }) base fits e soon old)

@@ -1,6 +1,6 @@
 -- What a visit tells, by its answer.
-use Rattle.std.proofs.Common.{◌≡◌, ℕ, ◌+◌, ◌<◌, ◌≤◌, ◌⊎◌, inl, inr, sym, ap, subst, arith, List, [], ◌∷◌, ◌++◌, length, length-append, map, All}
-use Rattle.std.proofs.lemmas.List.{length-map}
+use Rattle.std.proofs.Common.{◌≡◌, ℕ, ◌+◌, ◌<◌, ◌≤◌, ◌⊎◌, inl, inr, sym, ap, subst, ◌∙◌, arith, List, [], ◌∷◌, ◌++◌, length, length-append, map, All}
+use Rattle.std.proofs.lemmas.List.{length-map, map-append}
 use Rattle.std.proofs.lemmas.List.Elements.{All-nil, All-cons, All-append, All-weaker}
 use Rattle.rcpsp_model.specs.declared.parts.Entry.{Entry}
 use Rattle.rcpsp_model.specs.Schedule.{end_of}
@@ -15,6 +15,7 @@ use Rattle.precedence_tree.specs.Children.{child_fronts, StandsWherePlaced}
 use Rattle.cutset_store.specs.Index.{fronts_of}
 use Rattle.search_log.specs.declared.row.RowFate.{RowFate}
 use Rattle.search_log.specs.declared.row.Origin.{Origin}
+use Rattle.search_rounds.specs.declared.round.PlacedRecord.{PlacedRecord}
 use Rattle.search_rounds.specs.declared.round.Records.{Records}
 use Rattle.shared_rows.specs.Rows.{RowsState}
 use Rattle.tree_worker.specs.declared.answer.Cite.TheVariants.{Earlier, Own, Live}
@@ -25,7 +26,7 @@ use Rattle.tree_worker.specs.declared.answer.Visited.TheVariants.{Closed, Expand
 use Rattle.tree_worker.specs.Worker.{Progress}
 use Rattle.tree_worker.specs.Visits.{Closes, Did, Visits}
 use Rattle.steal_rounds.specs.Children.{new_row}
-use Rattle.steal_rounds.specs.Part.{PartState}
+use Rattle.round_shares.specs.Part.{PartState}
 use Rattle.steal_rounds.specs.Fates.{live_numbers, fate_in, places_of}
 use Rattle.steal_rounds.specs.Turns.{ExpandsAs, ClosesAs, Counts}
 use Rattle.steal_rounds.proofs.ChildRows.{AreKids-from, choice-length}
@@ -110,8 +111,11 @@ expanded-counts P earlier place node back at now s t kids base first origin limi
     let l = ap length x.live in
     let k = ap length v.expanding.live in
     let o = c.live in
+    let r : PlacedRecord = record { place = place; known = base } in
     record {
       grown = omega arith;
+      fronts = ap (map (λ (m : PlacedRecord). m.known.front)) x.made ∙ (map-append (λ (m : PlacedRecord). m.known.front) s.made (r ∷ [])
+          ∙ (ap (λ (fs : List (List Entry)). fs ++ base.front ∷ []) c.fronts ∙ (sym (map-append (λ (b : Base). b.front) at.worker.expanded (base ∷ [])) ∙ sym (ap fronts_of v.expanding.kept))));
       made = omega arith;
       won = omega arith;
       live = omega arith;
@@ -166,6 +170,7 @@ closed-counts P records rows place node at now s t close origin limits stands v 
     let cl = c.live in
     record {
       grown = omega arith;
+      fronts = ap (map (λ (m : PlacedRecord). m.known.front)) x.made ∙ (c.fronts ∙ sym (ap fronts_of v.expanded));
       made = omega arith;
       won = omega arith;
       live = omega arith;
@@ -193,6 +198,7 @@ back-counts node back at now s t v grown fills live made c =
     let cl = c.live in
     record {
       grown = omega arith;
+      fronts = ap (map (λ (m : PlacedRecord). m.known.front)) made ∙ (c.fronts ∙ sym (ap fronts_of v.expanded));
       made = omega arith;
       won = omega arith;
       live = omega arith;

@@ -1,4 +1,4 @@
--- A part as one of more workers, and a part whose nodes were dealt, or are left, in another order.
+-- A part whose nodes were dealt, or are left, in another order.
 use Rattle.std.proofs.Common.{◌≡◌, ℕ, ◌<◌, ◌≤◌, inl, inr, refl, sym, ap, subst, ◌∙◌, arith, List, [], ◌∷◌, ◌++◌, append-nil, length, map, All}
 use Rattle.std.specs.Prelude.{Contains, slice_index, slice_index_or}
 use Rattle.std.specs.List.{AllZip}
@@ -23,10 +23,9 @@ use Rattle.search_rounds.specs.declared.round.Records.{Records}
 use Rattle.search_rounds.specs.declared.round.Terms.{Terms}
 use Rattle.search_rounds.specs.Round.{waits_at, waiting_of, IsRecordOf, AreRecords}
 use Rattle.tree_worker.specs.Worker.{Progress}
-use Rattle.steal_rounds.specs.Ends.{end_in}
-use Rattle.steal_rounds.specs.Part.{Beginning, BeginsOn, IsByOneOf, PartState, Event, IsEventOf, IsCitedIn, by_earlier, by_own, IsMadeIn, IsCitedLive, IsOffered, IsNewRow, IsPartAt, IsPart}
-use Rattle.steal_rounds.specs.Joined.{AreDealt}
-use Rattle.steal_rounds.proofs.PartLaws.{BeginLaw}
+use Rattle.round_shares.specs.Ends.{end_in}
+use Rattle.round_shares.specs.Part.{Beginning, BeginsOn, IsByOneOf, PartState, Event, IsEventOf, IsCitedIn, by_earlier, by_own, IsMadeIn, IsCitedLive, IsOffered, IsNewRow, IsPartAt, IsPart}
+use Rattle.steal_rounds.specs.Dealt.{AreDealt}
 
 -- the second beginning is of the same round, and of the workers of the first and maybe more
 pub record IsWider (b c : Beginning) : Type 0 where
@@ -66,9 +65,6 @@ offered-wider P b c events all w more n is =
     let same = ap (λ (t : Terms). end_number t.best) w.terms in
     let less = is.less in
     record { event = is.event; among = more is.event is.among; leaf = is.leaf; is = is.is; less = omega arith; soon = is.soon }
-
-pub made-wider : (P : Project) (events all : List Event) → ((e : Event) → Contains events e → Contains all e) → (m : _) → IsMadeIn P events m → IsMadeIn P all m
-made-wider P events all more m is = record { event = is.event; among = more is.event is.among; is = is.is }
 
 -- Other orders.
 
@@ -144,72 +140,3 @@ in_order-part P b frontier left at s dealt others is = record {
   at_tree = λ ns k.
       in_order-at P b ns frontier left at s dealt others (is.at_tree ns (record { size = k.size; dealt = in_order-each (IsAtPlace ns) frontier b.dealt dealt k.dealt; records = k.records }));
 }
-
--- The start of a part.
-
--- what was dealt waits
-pub begin-part : BeginLaw
-begin-part P b at fresh = record {
-  falls = fresh.seen;
-  rows = tt;
-  fronts = sym (ap fronts_of fresh.expanded);
-  expanded = refl;
-  at_tree = λ ns k. record {
-    more = [];
-    events = [];
-    fills = refl;
-    grows = record {
-      size = refl;
-      account = λ h. refl;
-      waits = λ h. omega arith;
-      rows = λ i l. absurd (omega arith);
-      each_fill = tt;
-      each_left = subst (λ (n : List TreeNode). Each (IsAtPlace n) (waiting_of b.dealt)) (sym (append-nil ns)) k.dealt;
-    };
-    at_nodes = tt;
-    each = tt;
-    turns = record {
-      few = λ e c. absurd (In-from_Contains [] e c);
-      one = λ e f c d. absurd (In-from_Contains [] e c);
-      own = λ e f c d. absurd (In-from_Contains [] e c);
-      before = λ e f x c d. absurd (In-from_Contains [] e c);
-    };
-    cites = λ i q e is. absurd cc;
-    live = subst (AllZip (IsCitedLive P []) []) (sym fresh.live) tt;
-    made = All-nil (IsMadeIn P []);
-    made_all = λ e c. absurd (In-from_Contains [] e c);
-    offered = subst (All (IsOffered P b [])) (sym fresh.offers) (All-nil (IsOffered P b []));
-  };
-}
-
--- A part tells nothing of a pass but the least best that it saw and what it offered, and nothing of a worker but what it expanded
--- and what it cited live.
-
--- the same in these
-pub record IsAlike (at now : Progress) : Type 0 where
-  pub seen : at.pass.least_seen ≡ now.pass.least_seen
-  pub offers : at.pass.offers ≡ now.pass.offers
-  pub expanded : at.worker.expanded ≡ now.worker.expanded
-  pub live : at.worker.live ≡ now.worker.live
-
-alike-at : (P : Project) (b : Beginning) (ns : List TreeNode) (at now : Progress) (s : PartState) → IsAlike at now → IsPartAt P b ns at s → IsPartAt P b ns now s
-alike-at P b ns at now s a is = record {
-  more = is.more;
-  events = is.events;
-  fills = is.fills;
-  grows = subst (λ (n : ℕ). Grows P (searching (end_in n)) b.table.rows ns (waiting_of b.dealt) (map (λ m. m.row) s.grown) is.more s.fills (waiting_of s.left)) a.seen is.grows;
-  at_nodes = is.at_nodes;
-  each = subst (λ (n : ℕ). Each (IsEventOf P b n) is.events) a.seen is.each;
-  turns = is.turns;
-  cites = is.cites;
-  live = subst (AllZip (IsCitedLive P is.events) s.live) a.live is.live;
-  made = is.made;
-  made_all = is.made_all;
-  offered = subst (All (IsOffered P b is.events)) a.offers is.offered;
-}
-
-pub alike-part : (P : Project) (b : Beginning) (at now : Progress) (s : PartState) → IsAlike at now → IsPart P b at s → IsPart P b now s
-alike-part P b at now s a is =
-    let seen = a.seen in
-    let falls = is.falls in
-    record { falls = omega arith; rows = is.rows; fronts = is.fronts ∙ ap fronts_of a.expanded; expanded = is.expanded; at_tree = λ ns k. alike-at P b ns at now s a (is.at_tree ns k) }

@@ -6,8 +6,8 @@ use Rattle.search_log.specs.Lean.{end_number}
 use Rattle.search_table.specs.Lists.{least}
 use Rattle.search_rounds.specs.declared.round.RoundResult.{RoundResult}
 use Rattle.tree_worker.specs.Worker.{HasPlan, Progress}
-use Rattle.steal_rounds.specs.Ends.{end_in}
-use Rattle.steal_rounds.specs.Part.{Beginning, PartState}
+use Rattle.round_shares.specs.Ends.{end_in}
+use Rattle.round_shares.specs.Part.{Beginning, PartState}
 use Rattle.steal_rounds.specs.Cited.{cited_rows}
 
 -- of a part, with a plan and the best at the end

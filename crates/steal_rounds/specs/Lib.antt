@@ -1,9 +1,7 @@
-pub mod Ends
 pub mod Children
 pub mod Fates
-pub mod Part
+pub mod Lists
 pub mod Turns
-pub mod Joined
 pub mod Dealt
 pub mod Members
 pub mod Whole

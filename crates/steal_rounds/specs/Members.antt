@@ -1,11 +1,10 @@
 -- The workers of a round: how they begin, and what each has done.
-use Rattle.std.specs.Prelude.{◌≡◌, ℕ, ◌+◌, ◌<◌, false, List, [], ◌∷◌, length, All}
+use Rattle.std.specs.Prelude.{◌≡◌, ℕ, ◌+◌, ◌<◌, ◌≤◌, false, List, [], ◌∷◌, length, All}
 use Rattle.std.specs.declared.vec.Vec.{Vec}
 use Rattle.std.specs.declared.alloc.Global.{Global}
 use Rattle.atomic_table.specs.Seated.{TableId}
 use Rattle.rcpsp_model.specs.Project.{Project, numbers_from}
 use Rattle.precedence_tree.specs.Node.{StandsFor}
-use Rattle.search_log.specs.declared.table.Table.{Table}
 use Rattle.search_rounds.specs.declared.round.WaitingNode.{WaitingNode}
 use Rattle.search_rounds.specs.declared.round.Records.{Records}
 use Rattle.search_table.specs.declared.view.PassView.{PassView}
@@ -14,9 +13,8 @@ use Rattle.shared_rows.specs.Rows.{RowsState}
 use Rattle.tree_worker.specs.Worker.{Progress, new_worker, IsAtWork}
 use Rattle.tree_worker.specs.Visits.{StaysOf}
 use Rattle.steal_rounds.specs.declared.member.Member.{Member}
-use Rattle.steal_rounds.specs.Part.{part_state}
-use Rattle.steal_rounds.specs.Joined.{new_part}
-use Rattle.steal_rounds.specs.Turns.{Stage, stage_of, KeepsPart, Counts}
+use Rattle.steal_rounds.specs.Lists.{part_state, new_part}
+use Rattle.steal_rounds.specs.Turns.{Stage, stage_of, KeepsShare, Counts}
 
 abbrev pub progress_of : Member → Progress
 progress_of m = record { worker = m.worker; pass = m.pass.view }
@@ -48,19 +46,21 @@ pub record IsReady (P : Project) (words : TableId) (rows : RowsState) (m : Membe
   pub work : IsAtWork P rows (progress_of m)
   pub unrefused : m.pass.view.refused ≡ 0
   pub nodes : All (λ w. StandsFor P w.node) m.part.source
+  pub number : m.pass.view.number ≤ 32
   pub fresh : m.part.fills.items ≡ []
   pub counts : Counts (member_stage m)
 
 -- it has ended its part
-pub record IsDone (P : Project) (table : Table) (records : Records) (rows : RowsState) (round : ℕ) (before after : Member) : Type 0 where
+pub record IsDone (P : Project) (records : Records) (rows : RowsState) (round : ℕ) (before after : Member) : Type 0 where
   pub nodes : All (λ w. StandsFor P w.node) after.part.source
   pub work : IsAtWork P rows (progress_of after)
   pub counts : Counts (member_stage after)
+  pub few : length after.part.fills.items ≤ 65536
   pub moves : 0 < length before.part.source → 0 < length after.part.fills.items + after.pass.view.refused
-  pub keeps : KeepsPart P table records (record { round = round; worker = before.pass.view.number; turn = 0 }) (member_stage before) (member_stage after)
+  pub keeps : KeepsShare P records (record { round = round; worker = before.pass.view.number; turn = 0 }) (member_stage before) (member_stage after)
 
 -- it has ended its part, or memory was refused to it
-pub record Went (P : Project) (table : Table) (records : Records) (rows : RowsState) (round : ℕ) (before after : Member) : Type 0 where
+pub record Went (P : Project) (records : Records) (rows : RowsState) (round : ℕ) (before after : Member) : Type 0 where
   pub pass_table : after.pass.table ≡ before.pass.table
   pub stays : StaysOf before.pass.view after.pass.view
-  pub done : after.failed ≡ false → IsDone P table records rows round before after
+  pub done : after.failed ≡ false → IsDone P records rows round before after

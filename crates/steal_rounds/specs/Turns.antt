@@ -1,9 +1,10 @@
--- What a turn of a worker does to its part.
+-- What a turn of a worker does to its part and its share.
 use Rattle.std.specs.Prelude.{◌≡◌, ℕ, ◌+◌, ◌*◌, ◌<◌, ◌≤◌, Bool, true, false, IfSome, List, [], ◌∷◌, ◌++◌, length, map, All}
 use Rattle.rcpsp_model.specs.declared.parts.Child.{Child}
 use Rattle.rcpsp_model.specs.Project.{Project}
 use Rattle.precedence_tree.specs.declared.base.Base.{Base}
 use Rattle.precedence_tree.specs.Node.{NodeState}
+use Rattle.cutset_store.specs.Index.{fronts_of}
 use Rattle.search_log.specs.declared.row.RowFate.TheVariants.{Expanded}
 use Rattle.search_log.specs.declared.row.Origin.{Origin}
 use Rattle.search_log.specs.declared.table.Table.{Table}
@@ -13,10 +14,12 @@ use Rattle.search_rounds.specs.declared.round.Terms.{Terms}
 use Rattle.search_table.specs.PassState.{PassState}
 use Rattle.tree_worker.specs.declared.answer.Close.{Close}
 use Rattle.tree_worker.specs.Worker.{WorkerState, Progress}
+use Rattle.round_shares.specs.Part.{Beginning, PartState}
+use Rattle.round_shares.specs.Share.{Handled, IsShare}
 use Rattle.steal_rounds.specs.declared.part.Part.{Part}
 use Rattle.steal_rounds.specs.Children.{new_row, placed_from}
 use Rattle.steal_rounds.specs.Fates.{fate_in, live_numbers, places_of}
-use Rattle.steal_rounds.specs.Part.{Beginning, PartState, part_state, IsPart}
+use Rattle.steal_rounds.specs.Lists.{part_state}
 
 -- a node was expanded whose record this is, and whose children's rows begin at the place `first`
 pub record ExpandsAs (place : ℕ) (base : Base) (children : List (Child NodeState)) (first : ℕ) (origin : Origin) (before after : PartState) : Type 0 where
@@ -49,17 +52,18 @@ beginning table records worker dealt terms = record { table = table; records = r
 abbrev pub next_stage : WaitingNode → Stage → Stage
 next_stage next s = record s { part = record s.part { left = next ∷ s.part.left } }
 
--- what is a part goes on to be one: whatever was dealt, and in whatever round of this number
-abbrev pub KeepsPart : Project → Table → Records → Origin → Stage → Stage → Type 0
-KeepsPart P table records origin before after =
-    (dealt : List WaitingNode) (terms : Terms) → terms.number ≡ origin.round → IfSome terms.best (λ end. end ≤ 1290000) →
-    IsPart P (beginning table records origin.worker dealt terms) before.at before.part →
-    IsPart P (beginning table records origin.worker dealt terms) after.at after.part
+-- what is a share goes on to be one: whatever nodes the worker handled, and in whatever round of this number
+abbrev pub KeepsShare : Project → Records → Origin → Stage → Stage → Type 0
+KeepsShare P records origin before after =
+    (table : Table) (dealt : List WaitingNode) (terms : Terms) (h : Handled) → terms.number ≡ origin.round → IfSome terms.best (λ end. end ≤ 1290000) →
+    IsShare P (beginning table records origin.worker dealt terms) h before.at before.part →
+    IsShare P (beginning table records origin.worker dealt terms) h after.at after.part
 
--- The counts of a part: at most 512 new rows for each fill, a record for each ticket that was won, and the number of a fill for
--- each live citation; what was offered ends by 1,290,000
+-- The counts of a part: at most 512 new rows for each fill, a record for each front that was expanded and each ticket that was
+-- won, and the number of a fill for each live citation; what was offered ends by 1,290,000
 pub record Counts (s : Stage) : Type 0 where
   pub grown : length s.part.grown ≤ 512 * length s.part.fills
+  pub fronts : map (λ m. m.known.front) s.part.made ≡ fronts_of s.at.worker.expanded
   pub made : length s.part.made ≡ length s.at.worker.expanded
   pub won : s.at.pass.won ≡ length s.part.made
   pub live : length s.part.live ≡ length s.at.worker.live

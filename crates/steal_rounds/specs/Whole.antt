@@ -9,12 +9,14 @@ use Rattle.search_table.specs.Views.{joint_view}
 use Rattle.once_cell.specs.declared.race.note.Note.{Note}
 use Rattle.precedence_tree.specs.declared.base.Base.{Base}
 use Rattle.tree_worker.specs.declared.live.LiveNote.{LiveNote}
+use Rattle.round_shares.specs.Part.{PartState}
+use Rattle.round_shares.specs.Crew.{Worked, starts_from, real_fill, real_record, real_waiting, crew_part}
 use Rattle.steal_rounds.specs.declared.member.Member.{Member}
 use Rattle.steal_rounds.specs.declared.gathering.Shown.{Shown}
 use Rattle.steal_rounds.specs.declared.gathering.Published.{Published}
 use Rattle.steal_rounds.specs.declared.gathering.Whole.{Whole}
-use Rattle.steal_rounds.specs.Part.{PartState, part_state}
-use Rattle.steal_rounds.specs.Joined.{joined_part}
+use Rattle.steal_rounds.specs.Lists.{part_state}
+use Rattle.steal_rounds.specs.Members.{progress_of}
 
 abbrev pub whole_state : Whole → PartState
 whole_state w = record { grown = w.grown.items; fills = w.fills.items; live = w.live.items; made = w.made.items; left = w.left.items }
@@ -45,10 +47,20 @@ abbrev pub joined_views : PassView → List Member → PassView
 joined_views v [] = v
 joined_views v (m ∷ ms) = joined_views (joint_view v m.pass.view) ms
 
--- the lists of all parts, joined to the lists s on a table of so many rows
-abbrev pub joined_parts : ℕ → PartState → List Member → PartState
-joined_parts table s [] = s
-joined_parts table s (m ∷ ms) = joined_parts table (joined_part table s (part_state m.part)) ms
+-- what a worker did, apart from the nodes that it handled
+abbrev pub worked : Member → Worked
+worked m = record { at = progress_of m; part = part_state m.part; handled = record { got = []; given = [] } }
+
+-- the lists of two parts: those of the second come behind, with their places in the table, where the first new row of each worker
+-- has these places
+abbrev pub joined_part : List ℕ → PartState → PartState → PartState
+joined_part starts s t = record {
+  grown = s.grown ++ t.grown;
+  fills = s.fills ++ map (real_fill starts) t.fills;
+  live = s.live ++ map (λ i. length s.fills + i) t.live;
+  made = s.made ++ map (real_record starts) t.made;
+  left = s.left ++ map (real_waiting starts) t.left;
+}
 
 abbrev pub all_cited : List Member → List LiveNote
 all_cited [] = []
@@ -75,21 +87,17 @@ best_plan P plan [] = plan
 best_plan P plan (m ∷ ms) = best_plan P (better_plan P plan m.worker.plan) ms
 
 -- what the worker did comes behind what was there before
-pub record AddsMember (P : Project) (table : ℕ) (m : Member) (before after : Whole) : Type 0 where
-  pub lists : whole_state after ≡ joined_part table (whole_state before) (part_state m.part)
+pub record AddsMember (P : Project) (starts : List ℕ) (m : Member) (before after : Whole) : Type 0 where
+  pub lists : whole_state after ≡ joined_part starts (whole_state before) (part_state m.part)
   pub cited : after.cited.items ≡ before.cited.items ++ m.worker.live
   pub by : Published
   pub published : after.published.items ≡ before.published.items ++ by ∷ []
   pub is_by : IsPublishedBy (length before.made.items) m by
   pub plan : after.plan ≡ better_plan P before.plan m.worker.plan
 
--- nothing is done, and nothing waits
-abbrev pub no_part : PartState
-no_part = record { grown = []; fills = []; live = []; made = []; left = [] }
-
--- it is what these workers did
+-- it is what these workers did, on a table of so many rows
 pub record IsWholeOf (P : Project) (table : ℕ) (ms : List Member) (whole : Whole) : Type 0 where
-  pub lists : whole_state whole ≡ joined_parts table no_part ms
+  pub lists : whole_state whole ≡ crew_part (starts_from table (map worked ms)) (map worked ms) []
   pub cited : whole.cited.items ≡ all_cited ms
   pub published : ArePublishedBy 0 ms whole.published.items
   pub plan : whole.plan ≡ best_plan P None ms

@@ -4,7 +4,7 @@ ghost use Rattle.precedence_tree.specs.Base.{IsBaseOf};
 ghost use Rattle.precedence_tree.specs.Node.{StandsFor};
 ghost use Rattle.search_log.specs.Lean.{end_number, most_in_round};
 ghost use Rattle.search_rounds.specs.Round.{IsRoundOn};
-ghost use Rattle.steal_rounds.specs.Ends.{end_in};
+ghost use Rattle.round_shares.specs.Ends.{end_in};
 ghost use Rattle.steal_rounds.specs.Cited.{ArePublished, AreToBeCited, AreFills};
 ghost use Rattle.steal_rounds.specs.Settled.{Settles, EndsAs};
 
@@ -126,7 +126,6 @@ pub fn round<R: Threads + Sync, G: Gate + Sync>(
         runtime,
         alloc,
         project,
-        table,
         records,
         &words,
         &rows,

@@ -1,8 +1,7 @@
 // Dealing out the nodes of a frontier.
 ghost use Rattle.std.specs.Prelude.{◌≡◌, ◌<◌, ℕ, vec_len, length, All, Contains, IfOk, OnOk};
 ghost use Rattle.search_log.specs.Weights.{total};
-ghost use Rattle.steal_rounds.specs.Dealt.{all_dealt, Adds};
-ghost use Rattle.steal_rounds.specs.Joined.{AreDealt};
+ghost use Rattle.steal_rounds.specs.Dealt.{all_dealt, Adds, AreDealt};
 
 use sched_base::{List, NoMemory};
 use search_rounds::WaitingNode;

@@ -1,7 +1,7 @@
 // A node that was expanded joins a part: the rows of its children, its placed children, its record and its fill.
 ghost use Rattle.std.specs.Prelude.{◌≡◌, ◌+◌, ◌≤◌, ◌<◌, ◌++◌, length, map, OnOk};
 ghost use Rattle.steal_rounds.specs.Children.{last_placed, row_of_child, new_row, waiting_child, placed_from};
-ghost use Rattle.steal_rounds.specs.Part.{part_state};
+ghost use Rattle.steal_rounds.specs.Lists.{part_state};
 ghost use Rattle.steal_rounds.specs.Turns.{ExpandsAs};
 
 use crate::part::Part;

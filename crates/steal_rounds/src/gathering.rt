@@ -1,14 +1,14 @@
 // What the workers of a round did, put together.
-ghost use Rattle.std.specs.Prelude.{◌≡◌, ◌+◌, ◌++◌, nat_lt, map, length, IfOk, OnOk, IfSome};
+ghost use Rattle.std.specs.Prelude.{◌≡◌, ◌+◌, ◌++◌, nat_lt, map, IfOk, OnOk, IfSome};
 ghost use Rattle.rcpsp_model.specs.Schedule.{end_of, entries};
 ghost use Rattle.search_log.specs.Weights.{Each};
 ghost use Rattle.search_table.specs.Views.{joint_view};
-ghost use Rattle.steal_rounds.specs.Joined.{moved, moved_fate, moved_fill, moved_record, moved_waiting, joined_part};
-ghost use Rattle.steal_rounds.specs.Part.{part_state};
-ghost use Rattle.steal_rounds.specs.Whole.{by_worker, whole_state, better_plan, IsShort, IsOfTable, IsSound, AddsMember, joined_views, IsWholeOf};
+ghost use Rattle.round_shares.specs.Crew.{starts_from, real_place, real_fate, real_fill, real_record, real_waiting};
+ghost use Rattle.steal_rounds.specs.Lists.{part_state};
+ghost use Rattle.steal_rounds.specs.Whole.{worked, by_worker, whole_state, better_plan, IsShort, IsOfTable, IsSound, joined_part, AddsMember, joined_views, IsWholeOf};
 
 use crate::member::Member;
-use crate::part::Part;
+use crate::part::{Part, ROOM};
 use crate::source::NodeSource;
 use cutset_store::CutRecord;
 use project_net::{Project, Schedule};
@@ -39,7 +39,8 @@ pub(crate) struct Published {
     pub shown: Vec<Shown>,
 }
 
-/// The parts of workers, joined one after another: the new rows of each come behind those of the workers before it.
+/// The parts of workers, joined one after another, with their places in the table: the new rows of each worker come behind those
+/// of the workers before it.
 #[derive(Drop)]
 pub(crate) struct Whole {
     pub grown: Vec<NewRow>,
@@ -66,29 +67,53 @@ fn number_of(count: usize) -> Result<u32, NoMemory>
     Ok(count as u32)
 }
 
-// Where a place lies once so many new rows stand before those of its worker, on a table of so many rows.
-fn moved_place(table: u32, grown: u32, place: u32) -> Result<u32, NoMemory>
-    ensures { IfOk result (λ p. p ≡ moved table grown place) }
+// A sum as a number of 32 bits; there is no room for more.
+fn sum_of(number: u32, more: u32) -> Result<u32, NoMemory>
+    ensures { IfOk result (λ sum. sum ≡ number + more) }
 {
-    if place < table {
-        return Ok(place);
-    }
-    match place.checked_add(grown) {
-        Some(moved) => Ok(moved),
+    match number.checked_add(more) {
+        Some(sum) => Ok(sum),
         None => Err(NoMemory),
     }
 }
 
-fn moved_row_fate(table: u32, grown: u32, fate: RowFate) -> Result<RowFate, NoMemory>
-    ensures { IfOk result (λ f. f ≡ moved_fate table grown fate) }
+// The places in the table of the first new row of each worker, on a table of so many rows.
+fn starts_of(alloc: Global, table: u32, members: &[Member]) -> Result<Vec<u32>, NoMemory>
+    ensures { IfOk result (λ starts. starts.items ≡ starts_from table (map worked members.now)) }
+{
+    let mut starts = Vec::with_capacity(alloc, members.len())?;
+    let mut next = table;
+    for member in members {
+        starts.push(next)?;
+        let rows = number_of(member.part.grown.as_slice().len())?;
+        next = sum_of(next, rows)?;
+    }
+    Ok(starts)
+}
+
+// The place in the table of a place of a part, where the first new row of each worker has these places.
+fn table_place(starts: &[u32], place: u32) -> Result<u32, NoMemory>
+    ensures { IfOk result (λ p. p ≡ real_place starts.now place) }
+{
+    if place < ROOM {
+        return Ok(place);
+    }
+    match starts.get((place / ROOM - 1) as usize) {
+        Some(start) => sum_of(*start, place % ROOM),
+        None => Err(NoMemory),
+    }
+}
+
+fn table_fate(starts: &[u32], fate: RowFate) -> Result<RowFate, NoMemory>
+    ensures { IfOk result (λ f. f ≡ real_fate starts.now fate) }
 {
     match fate {
         RowFate::Expanded { count, first } => {
-            let first = moved_place(table, grown, first)?;
+            let first = table_place(starts, first)?;
             Ok(RowFate::Expanded { count, first })
         }
         RowFate::Cited(place) => {
-            let place = moved_place(table, grown, place)?;
+            let place = table_place(starts, place)?;
             Ok(RowFate::Cited(place))
         }
         fate => Ok(fate),
@@ -102,12 +127,12 @@ fn add_rows(rows: &mut Vec<NewRow>, more: &[NewRow]) -> Result<(), NoMemory>
     Ok(())
 }
 
-fn add_fills(fills: &mut Vec<Fill>, table: u32, grown: u32, more: &[Fill]) -> Result<(), NoMemory>
-    ensures { OnOk result (fills.new.items ≡ fills.old.items ++ map (moved_fill table grown) more.now) }
+fn add_fills(fills: &mut Vec<Fill>, starts: &[u32], more: &[Fill]) -> Result<(), NoMemory>
+    ensures { OnOk result (fills.new.items ≡ fills.old.items ++ map (real_fill starts.now) more.now) }
 {
     for fill in more {
-        let place = moved_place(table, grown, fill.place)?;
-        let fate = moved_row_fate(table, grown, fill.fate)?;
+        let place = table_place(starts, fill.place)?;
+        let fate = table_fate(starts, fill.fate)?;
         fills.push(Fill {
             place,
             fate,
@@ -121,25 +146,22 @@ fn add_live(live: &mut Vec<u32>, before: u32, more: &[u32]) -> Result<(), NoMemo
     ensures { OnOk result (live.new.items ≡ live.old.items ++ map (λ i. before + i) more.now) }
 {
     for number in more {
-        match before.checked_add(*number) {
-            Some(number) => live.push(number)?,
-            None => return Err(NoMemory),
-        }
+        let number = sum_of(before, *number)?;
+        live.push(number)?;
     }
     Ok(())
 }
 
 fn add_made(
     made: &mut Vec<PlacedRecord>,
-    table: u32,
-    grown: u32,
+    starts: &[u32],
     more: Vec<PlacedRecord>,
 ) -> Result<(), NoMemory>
-    ensures { OnOk result (made.new.items ≡ made.old.items ++ map (moved_record table grown) more.items) }
+    ensures { OnOk result (made.new.items ≡ made.old.items ++ map (real_record starts.now) more.items) }
 {
     let mut more = VecDeque::from(more);
     while let Some(PlacedRecord { place, known }) = more.pop_front() {
-        let place = moved_place(table, grown, place)?;
+        let place = table_place(starts, place)?;
         made.push(PlacedRecord { place, known })?;
     }
     Ok(())
@@ -148,23 +170,22 @@ fn add_made(
 fn add_left(
     alloc: Global,
     left: &mut Vec<WaitingNode>,
-    table: u32,
-    grown: u32,
+    starts: &[u32],
     source: NodeSource,
 ) -> Result<(), NoMemory>
-    ensures { OnOk result (left.new.items ≡ left.old.items ++ map (moved_waiting table grown) source) }
+    ensures { OnOk result (left.new.items ≡ left.old.items ++ map (real_waiting starts.now) source) }
 {
     let mut more = VecDeque::from(source.into_left(alloc)?.into_vec());
     while let Some(WaitingNode { place, node }) = more.pop_front() {
-        let place = moved_place(table, grown, place)?;
+        let place = table_place(starts, place)?;
         left.push(WaitingNode { place, node })?;
     }
     Ok(())
 }
 
-// Joins a part, on a table of so many rows.
-fn add_part(alloc: Global, whole: &mut Whole, table: u32, part: Part) -> Result<(), NoMemory>
-    ensures lists { OnOk result (whole_state whole.new ≡ joined_part table (whole_state whole.old) (part_state part)) }
+// Joins a part.
+fn add_part(alloc: Global, whole: &mut Whole, starts: &[u32], part: Part) -> Result<(), NoMemory>
+    ensures lists { OnOk result (whole_state whole.new ≡ joined_part starts.now (whole_state whole.old) (part_state part)) }
     ensures cited { whole.new.cited ≡ whole.old.cited }
     ensures published { whole.new.published ≡ whole.old.published }
     ensures plan { whole.new.plan ≡ whole.old.plan }
@@ -177,11 +198,10 @@ fn add_part(alloc: Global, whole: &mut Whole, table: u32, part: Part) -> Result<
         source,
     } = part;
     let before = number_of(whole.fills.as_slice().len())?;
-    let rows = number_of(whole.grown.as_slice().len())?;
-    add_fills(&mut whole.fills, table, rows, fills.as_slice())?;
+    add_fills(&mut whole.fills, starts, fills.as_slice())?;
     add_live(&mut whole.live, before, live.as_slice())?;
-    add_made(&mut whole.made, table, rows, made)?;
-    add_left(alloc, &mut whole.left, table, rows, source)?;
+    add_made(&mut whole.made, starts, made)?;
+    add_left(alloc, &mut whole.left, starts, source)?;
     add_rows(&mut whole.grown, grown.as_slice())
 }
 
@@ -234,7 +254,7 @@ fn shown_by(
 fn add_member(
     alloc: Global,
     project: &Project,
-    table: u32,
+    starts: &[u32],
     words: &RoundTable,
     first: &mut Pass,
     whole: &mut Whole,
@@ -247,7 +267,7 @@ fn add_member(
     ensures table { first.new.table ≡ first.old.table }
     ensures view { first.new.view ≡ joint_view first.old.view member.pass.view }
     ensures sound { OnOk result (IsSound member) }
-    ensures joined { OnOk result (AddsMember project.now table member whole.old whole.new) }
+    ensures joined { OnOk result (AddsMember project.now starts.now member whole.old whole.new) }
 {
     let Member {
         worker,
@@ -261,7 +281,7 @@ fn add_member(
         return Err(NoMemory);
     }
     let made = whole.made.as_slice().len();
-    add_part(alloc, whole, table, part)?;
+    add_part(alloc, whole, starts, part)?;
     let parts = worker.into_parts();
     let shown = shown_by(alloc, number, parts.own)?;
     whole.published.push(Published { first: made, shown })?;
@@ -288,6 +308,7 @@ pub(crate) fn gather(
     ensures sound { IfOk result (λ whole. Each IsSound members.items) }
     ensures whole { IfOk result (IsWholeOf project.now table members.items) }
 {
+    let starts = starts_of(alloc, table, members.as_slice())?;
     let mut whole = Whole {
         grown: Vec::new(alloc),
         fills: Vec::new(alloc),
@@ -300,7 +321,15 @@ pub(crate) fn gather(
     };
     let mut members = VecDeque::from(members);
     while let Some(member) = members.pop_front() {
-        add_member(alloc, project, table, words, first, &mut whole, member)?;
+        add_member(
+            alloc,
+            project,
+            starts.as_slice(),
+            words,
+            first,
+            &mut whole,
+            member,
+        )?;
     }
     Ok(whole)
 }

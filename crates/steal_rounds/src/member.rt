@@ -4,8 +4,7 @@ ghost use Rattle.std.specs.List.{AllZip};
 ghost use Rattle.std.specs.Thread.{IsSync};
 ghost use Rattle.precedence_tree.specs.Base.{IsBaseOf};
 ghost use Rattle.tree_worker.specs.Worker.{new_worker};
-ghost use Rattle.steal_rounds.specs.Part.{part_state};
-ghost use Rattle.steal_rounds.specs.Joined.{new_part};
+ghost use Rattle.steal_rounds.specs.Lists.{part_state, new_part};
 ghost use Rattle.steal_rounds.specs.Members.{IsReady, Went, AreSeated, with_workers};
 
 use crate::part::Part;
@@ -14,7 +13,6 @@ use crate::work::work;
 use cutset_store::CutRecord;
 use project_net::Project;
 use sched_base::{Gate, List, NoMemory};
-use search_log::Table;
 use search_rounds::{Records, WaitingNode};
 use search_table::{Pass, RoundTable};
 use shared_rows::Rows;
@@ -90,7 +88,6 @@ pub(crate) fn seat(
 fn run_one<G: Gate>(
     alloc: Global,
     project: &Project,
-    table: &Table,
     records: &Records,
     words: &RoundTable,
     rows: &Rows<CutRecord>,
@@ -100,14 +97,12 @@ fn run_one<G: Gate>(
 )
     requires records { All (IsBaseOf project.now) records.now.index }
     requires places { length records.now.places ≡ length records.now.index }
-    requires room { length table.now.rows ≤ 51200001 }
     requires ready { IsReady project.now words.now rows.now member.old }
-    ensures { Went project.now table.now records.now rows.now round member.old member.new }
+    ensures { Went project.now records.now rows.now round member.old member.new }
 {
     let done = work(
         alloc,
         project,
-        table,
         records,
         words,
         rows,
@@ -125,7 +120,6 @@ fn run_all<R: Threads + Sync, G: Gate + Sync>(
     runtime: &R,
     alloc: Global,
     project: &Project,
-    table: &Table,
     records: &Records,
     words: &RoundTable,
     rows: &Rows<CutRecord>,
@@ -135,15 +129,12 @@ fn run_all<R: Threads + Sync, G: Gate + Sync>(
 )
     requires records { All (IsBaseOf project.now) records.now.index }
     requires places { length records.now.places ≡ length records.now.index }
-    requires room { length table.now.rows ≤ 51200001 }
     requires ready { All (IsReady project.now words.now rows.now) members.old }
-    ensures { AllZip (Went project.now table.now records.now rows.now round) members.old members.new }
+    ensures { AllZip (Went project.now records.now rows.now round) members.old members.new }
 {
     if members.len() < 2 {
         if let [member] = members {
-            run_one(
-                alloc, project, table, records, words, rows, round, gate, member,
-            );
+            run_one(alloc, project, records, words, rows, round, gate, member);
         }
         return;
     }
@@ -151,21 +142,19 @@ fn run_all<R: Threads + Sync, G: Gate + Sync>(
     join_mut(
         runtime,
         &mut ||
-            requires { IsSync R.row × IsSync G.row × All (IsBaseOf project.now) records.now.index × (length records.now.places ≡ length records.now.index)
-                × (length table.now.rows ≤ 51200001) × All (IsReady project.now words.now rows.now) front.now }
-            ensures { AllZip (Went project.entry.now table.entry.now records.entry.now rows.entry.now round) front.entry.now front.exit.now }
+            requires { IsSync R.row × IsSync G.row × All (IsBaseOf project.now) records.now.index × (length records.now.places ≡ length records.now.index) × All (IsReady project.now words.now rows.now) front.now }
+            ensures { AllZip (Went project.entry.now records.entry.now rows.entry.now round) front.entry.now front.exit.now }
         {
             run_all(
-                runtime, alloc, project, table, records, words, rows, round, gate, front,
+                runtime, alloc, project, records, words, rows, round, gate, front,
             )
         },
         &mut ||
-            requires { IsSync R.row × IsSync G.row × All (IsBaseOf project.now) records.now.index × (length records.now.places ≡ length records.now.index)
-                × (length table.now.rows ≤ 51200001) × All (IsReady project.now words.now rows.now) back.now }
-            ensures { AllZip (Went project.entry.now table.entry.now records.entry.now rows.entry.now round) back.entry.now back.exit.now }
+            requires { IsSync R.row × IsSync G.row × All (IsBaseOf project.now) records.now.index × (length records.now.places ≡ length records.now.index) × All (IsReady project.now words.now rows.now) back.now }
+            ensures { AllZip (Went project.entry.now records.entry.now rows.entry.now round) back.entry.now back.exit.now }
         {
             run_all(
-                runtime, alloc, project, table, records, words, rows, round, gate, back,
+                runtime, alloc, project, records, words, rows, round, gate, back,
             )
         },
     );
@@ -176,7 +165,6 @@ pub(crate) fn run_members<R: Threads + Sync, G: Gate + Sync>(
     runtime: &R,
     alloc: Global,
     project: &Project,
-    table: &Table,
     records: &Records,
     words: &RoundTable,
     rows: &Rows<CutRecord>,
@@ -186,15 +174,13 @@ pub(crate) fn run_members<R: Threads + Sync, G: Gate + Sync>(
 )
     requires records { All (IsBaseOf project.now) records.now.index }
     requires places { length records.now.places ≡ length records.now.index }
-    requires room { length table.now.rows ≤ 51200001 }
     requires ready { All (IsReady project.now words.now rows.now) members.old.items }
-    ensures { AllZip (Went project.now table.now records.now rows.now round) members.old.items members.new.items }
+    ensures { AllZip (Went project.now records.now rows.now round) members.old.items members.new.items }
 {
     run_all(
         runtime,
         alloc,
         project,
-        table,
         records,
         words,
         rows,

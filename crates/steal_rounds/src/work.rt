@@ -5,15 +5,15 @@ ghost use Rattle.precedence_tree.specs.Node.{StandsFor};
 ghost use Rattle.tree_worker.specs.Worker.{IsAtWork};
 ghost use Rattle.tree_worker.specs.Visits.{StaysOf};
 ghost use Rattle.steal_rounds.specs.Fates.{IsCitedWithin, fate_in, live_numbers, places_of};
-ghost use Rattle.steal_rounds.specs.Part.{part_state};
-ghost use Rattle.steal_rounds.specs.Turns.{stage_of, next_stage, ClosesAs, KeepsPart, Counts, IsTurn};
+ghost use Rattle.steal_rounds.specs.Lists.{part_state};
+ghost use Rattle.steal_rounds.specs.Turns.{stage_of, next_stage, ClosesAs, KeepsShare, Counts, IsTurn};
 
 use crate::expanding::expanded;
-use crate::part::Part;
+use crate::part::{Part, ROOM};
 use cutset_store::CutRecord;
 use project_net::Project;
 use sched_base::{Gate, NoMemory};
-use search_log::{Fill, Origin, RowFate, Table};
+use search_log::{Fill, Origin, RowFate};
 use search_rounds::{PlacedRecord, Records, WaitingNode};
 use search_table::{Pass, RoundTable};
 use shared_rows::{Cells, OnceCells, Rows};
@@ -81,7 +81,6 @@ fn closed(
 fn take_turn<C: Cells<CutRecord>, G: Gate>(
     alloc: Global,
     project: &Project,
-    table: &Table,
     records: &Records,
     words: &RoundTable,
     rows: &Rows<CutRecord>,
@@ -98,9 +97,9 @@ fn take_turn<C: Cells<CutRecord>, G: Gate>(
     requires unrefused { pass.old.view.refused ≡ 0 }
     requires records { All (IsBaseOf project.now) records.now.index }
     requires places { length records.now.places ≡ length records.now.index }
-    requires room { length table.now.rows ≤ 51200001 }
     requires node { StandsFor project.now next.node }
     requires number { origin.worker ≡ pass.old.view.number }
+    requires worker { origin.worker ≤ 32 }
     requires turn { origin.turn ≡ length part.old.fills.items + 1 }
     requires few { origin.turn ≤ 65536 }
     requires counts { Counts (stage_of worker.old pass.old part.old) }
@@ -111,7 +110,7 @@ fn take_turn<C: Cells<CutRecord>, G: Gate>(
     ensures work { OnOk result (IsAtWork project.now rows.now (record { worker = worker.new; pass = pass.new.view })) }
     ensures counts { OnOk result (Counts (stage_of worker.new pass.new part.new)) }
     ensures turn { IfOk result (λ on. IsTurn on (stage_of worker.old pass.old part.old) (stage_of worker.new pass.new part.new)) }
-    ensures keeps { OnOk result (KeepsPart project.now table.now records.now origin (next_stage next (stage_of worker.old pass.old part.old)) (stage_of worker.new pass.new part.new)) }
+    ensures keeps { OnOk result (KeepsShare project.now records.now origin (next_stage next (stage_of worker.old pass.old part.old)) (stage_of worker.new pass.new part.new)) }
 {
     project.known();
     let WaitingNode { place, node } = next;
@@ -130,7 +129,7 @@ fn take_turn<C: Cells<CutRecord>, G: Gate>(
             Ok(true)
         }
         Visited::Expanded(_, children, known) => {
-            let first = table.rows.len() + part.grown.as_slice().len() as u32;
+            let first = origin.worker * ROOM + part.grown.as_slice().len() as u32;
             expanded(part, place, known, children, first, origin)?;
             gate.pass(origin.worker);
             Ok(true)
@@ -146,7 +145,6 @@ fn take_turn<C: Cells<CutRecord>, G: Gate>(
 pub(crate) fn work<G: Gate>(
     alloc: Global,
     project: &Project,
-    table: &Table,
     records: &Records,
     words: &RoundTable,
     rows: &Rows<CutRecord>,
@@ -161,8 +159,8 @@ pub(crate) fn work<G: Gate>(
     requires unrefused { pass.old.view.refused ≡ 0 }
     requires records { All (IsBaseOf project.now) records.now.index }
     requires places { length records.now.places ≡ length records.now.index }
-    requires room { length table.now.rows ≤ 51200001 }
     requires nodes { All (λ w. StandsFor project.now w.node) part.old.source }
+    requires number { pass.old.view.number ≤ 32 }
     requires fresh { part.old.fills.items ≡ [] }
     requires counts { Counts (stage_of worker.old pass.old part.old) }
     ensures table { pass.new.table ≡ pass.old.table }
@@ -170,8 +168,9 @@ pub(crate) fn work<G: Gate>(
     ensures nodes { OnOk result (All (λ w. StandsFor project.now w.node) part.new.source) }
     ensures work { OnOk result (IsAtWork project.now rows.now (record { worker = worker.new; pass = pass.new.view })) }
     ensures counts { OnOk result (Counts (stage_of worker.new pass.new part.new)) }
+    ensures few { OnOk result (length part.new.fills.items ≤ 65536) }
     ensures moves { OnOk result (0 < length part.old.source → 0 < length part.new.fills.items + pass.new.view.refused) }
-    ensures keeps { OnOk result (KeepsPart project.now table.now records.now (record { round = round; worker = pass.old.view.number; turn = 0 }) (stage_of worker.old pass.old part.old) (stage_of worker.new pass.new part.new)) }
+    ensures keeps { OnOk result (KeepsShare project.now records.now (record { round = round; worker = pass.old.view.number; turn = 0 }) (stage_of worker.old pass.old part.old) (stage_of worker.new pass.new part.new)) }
 {
     let mut cells = OnceCells::new();
     let number = pass.number();
@@ -187,8 +186,8 @@ pub(crate) fn work<G: Gate>(
             turn: done + 1,
         };
         if !take_turn(
-            alloc, project, table, records, words, rows, worker, pass, &mut cells, part, origin,
-            next, gate,
+            alloc, project, records, words, rows, worker, pass, &mut cells, part, origin, next,
+            gate,
         )? {
             return Ok(());
         }

@@ -6,7 +6,7 @@ use Rattle.search_table.specs.Views.{first_view}
 use Rattle.steal_rounds.specs.Members.{with_workers, AreSeated}
 use Rattle.steal_rounds.specs.Whole.{joined_views, IsWholeOf}
 use Rattle.steal_rounds.specs.Settled.{EndsAs}
-use Rattle.steal_rounds.proofs.EndNumbers.{end-small}
+use Rattle.round_shares.proofs.EndNumbers.{end-small}
 use Rattle.steal_rounds.proofs.RoundWords.{if_ok-weaker}
 use Rattle.steal_rounds.proofs.CrewRounds.{list-many}
 use Rattle.steal_rounds.proofs.CrewRounds.{Ran, Gathered, Closes, begin-ready, ran-passes, ran-plans, gathered-view, gathered-citable, gathered-round, closed-best}
@@ -16,7 +16,8 @@ pub run_members-requires-clause-ready : goal.run_members-requires-clause-ready
 run_members-requires-clause-ready g c κs within =
     let round : RoundTerms = record { start = c.number_of-start.result; quota = c.args.terms.quota; workers = c.args.workers } in
     begin-ready c.args.project.now c.args.terms c.args.workers c.in_ok-rows.rows c.in_ok-words.words round c.args.frontier c.in_ok-dealt.dealt.items c.in_ok-members.members.items
-    (record { start = c.number_of-start.ensures; quota = refl; of_words = refl; of_rows = c.in_ok-rows.ensures.workers; cells = c.in_ok-rows.ensures.cells }) c.in_ok-dealt.ensures.dealt c.requires.nodes
+    (record { start = c.number_of-start.ensures; quota = refl; of_words = refl; of_rows = c.in_ok-rows.ensures.workers; cells = c.in_ok-rows.ensures.cells }) c.requires.few_workers
+    (list-many c.in_ok-dealt.dealt ∙ c.in_ok-dealt.ensures.len) c.in_ok-dealt.ensures.dealt c.requires.nodes
     (subst (λ (v : PassView). AreSeated c.in_ok-words.words v 1 c.in_ok-dealt.dealt.items c.in_ok-members.members.items) c.in_ok-words.ensures.view c.in_ok-members.ensures.members)
 
 pub gather-requires-clause-passes : goal.gather-requires-clause-passes
@@ -25,6 +26,7 @@ gather-requires-clause-passes g c =
     let ran : Ran c.args.project.now c.args.table.now c.args.records.now c.args.terms c.args.workers c.in_ok-rows.rows c.in_ok-words.words round c.args.frontier c.in_ok-dealt.dealt.items c.in_ok-members.members.items c.run_members.new.members.items = record {
       begins = record { start = c.number_of-start.ensures; quota = refl; of_words = refl; of_rows = c.in_ok-rows.ensures.workers; cells = c.in_ok-rows.ensures.cells };
       soon = c.requires.soon;
+      room = c.requires.room;
       some = c.requires.some;
       quota = c.requires.quota;
       many = list-many c.in_ok-dealt.dealt ∙ c.in_ok-dealt.ensures.len;
@@ -40,6 +42,7 @@ gather-requires-clause-plans g c =
     let ran : Ran c.args.project.now c.args.table.now c.args.records.now c.args.terms c.args.workers c.in_ok-rows.rows c.in_ok-words.words round c.args.frontier c.in_ok-dealt.dealt.items c.in_ok-members.members.items c.run_members.new.members.items = record {
       begins = record { start = c.number_of-start.ensures; quota = refl; of_words = refl; of_rows = c.in_ok-rows.ensures.workers; cells = c.in_ok-rows.ensures.cells };
       soon = c.requires.soon;
+      room = c.requires.room;
       some = c.requires.some;
       quota = c.requires.quota;
       many = list-many c.in_ok-dealt.dealt ∙ c.in_ok-dealt.ensures.len;
@@ -55,6 +58,7 @@ close_with-end-requires-clause-first g c =
     let ran : Ran c.args.project.now c.args.table.now c.args.records.now c.args.terms c.args.workers c.in_ok-rows.rows c.in_ok-words.words round c.args.frontier c.in_ok-dealt.dealt.items c.in_ok-members.members.items c.run_members.new.members.items = record {
       begins = record { start = c.number_of-start.ensures; quota = refl; of_words = refl; of_rows = c.in_ok-rows.ensures.workers; cells = c.in_ok-rows.ensures.cells };
       soon = c.requires.soon;
+      room = c.requires.room;
       some = c.requires.some;
       quota = c.requires.quota;
       many = list-many c.in_ok-dealt.dealt ∙ c.in_ok-dealt.ensures.len;
@@ -74,6 +78,7 @@ close_with-end-requires-clause-all g c =
     let ran : Ran c.args.project.now c.args.table.now c.args.records.now c.args.terms c.args.workers c.in_ok-rows.rows c.in_ok-words.words round c.args.frontier c.in_ok-dealt.dealt.items c.in_ok-members.members.items c.run_members.new.members.items = record {
       begins = record { start = c.number_of-start.ensures; quota = refl; of_words = refl; of_rows = c.in_ok-rows.ensures.workers; cells = c.in_ok-rows.ensures.cells };
       soon = c.requires.soon;
+      room = c.requires.room;
       some = c.requires.some;
       quota = c.requires.quota;
       many = list-many c.in_ok-dealt.dealt ∙ c.in_ok-dealt.ensures.len;
@@ -93,6 +98,7 @@ settled-requires-clause-published g c =
     let ran : Ran c.args.project.now c.args.table.now c.args.records.now c.args.terms c.args.workers c.in_ok-rows.rows c.in_ok-words.words round c.args.frontier c.in_ok-dealt.dealt.items c.in_ok-members.members.items c.run_members.new.members.items = record {
       begins = record { start = c.number_of-start.ensures; quota = refl; of_words = refl; of_rows = c.in_ok-rows.ensures.workers; cells = c.in_ok-rows.ensures.cells };
       soon = c.requires.soon;
+      room = c.requires.room;
       some = c.requires.some;
       quota = c.requires.quota;
       many = list-many c.in_ok-dealt.dealt ∙ c.in_ok-dealt.ensures.len;
@@ -114,6 +120,7 @@ settled-requires-clause-cited g c =
     let ran : Ran c.args.project.now c.args.table.now c.args.records.now c.args.terms c.args.workers c.in_ok-rows.rows c.in_ok-words.words round c.args.frontier c.in_ok-dealt.dealt.items c.in_ok-members.members.items c.run_members.new.members.items = record {
       begins = record { start = c.number_of-start.ensures; quota = refl; of_words = refl; of_rows = c.in_ok-rows.ensures.workers; cells = c.in_ok-rows.ensures.cells };
       soon = c.requires.soon;
+      room = c.requires.room;
       some = c.requires.some;
       quota = c.requires.quota;
       many = list-many c.in_ok-dealt.dealt ∙ c.in_ok-dealt.ensures.len;
@@ -135,6 +142,7 @@ settled-requires-clause-many g c =
     let ran : Ran c.args.project.now c.args.table.now c.args.records.now c.args.terms c.args.workers c.in_ok-rows.rows c.in_ok-words.words round c.args.frontier c.in_ok-dealt.dealt.items c.in_ok-members.members.items c.run_members.new.members.items = record {
       begins = record { start = c.number_of-start.ensures; quota = refl; of_words = refl; of_rows = c.in_ok-rows.ensures.workers; cells = c.in_ok-rows.ensures.cells };
       soon = c.requires.soon;
+      room = c.requires.room;
       some = c.requires.some;
       quota = c.requires.quota;
       many = list-many c.in_ok-dealt.dealt ∙ c.in_ok-dealt.ensures.len;
@@ -156,6 +164,7 @@ settled-requires-clause-fills g c =
     let ran : Ran c.args.project.now c.args.table.now c.args.records.now c.args.terms c.args.workers c.in_ok-rows.rows c.in_ok-words.words round c.args.frontier c.in_ok-dealt.dealt.items c.in_ok-members.members.items c.run_members.new.members.items = record {
       begins = record { start = c.number_of-start.ensures; quota = refl; of_words = refl; of_rows = c.in_ok-rows.ensures.workers; cells = c.in_ok-rows.ensures.cells };
       soon = c.requires.soon;
+      room = c.requires.room;
       some = c.requires.some;
       quota = c.requires.quota;
       many = list-many c.in_ok-dealt.dealt ∙ c.in_ok-dealt.ensures.len;
@@ -177,6 +186,7 @@ ended-requires g c =
     let ran : Ran c.args.project.now c.args.table.now c.args.records.now c.args.terms c.args.workers c.in_ok-rows.rows c.in_ok-words.words round c.args.frontier c.in_ok-dealt.dealt.items c.in_ok-members.members.items c.run_members.new.members.items = record {
       begins = record { start = c.number_of-start.ensures; quota = refl; of_words = refl; of_rows = c.in_ok-rows.ensures.workers; cells = c.in_ok-rows.ensures.cells };
       soon = c.requires.soon;
+      room = c.requires.room;
       some = c.requires.some;
       quota = c.requires.quota;
       many = list-many c.in_ok-dealt.dealt ∙ c.in_ok-dealt.ensures.len;
@@ -200,6 +210,7 @@ returns g c =
     let ran : Ran c.args.project.now c.args.table.now c.args.records.now c.args.terms c.args.workers c.in_ok-rows.rows c.in_ok-words.words round c.args.frontier c.in_ok-dealt.dealt.items c.in_ok-members.members.items c.run_members.new.members.items = record {
       begins = record { start = c.number_of-start.ensures; quota = refl; of_words = refl; of_rows = c.in_ok-rows.ensures.workers; cells = c.in_ok-rows.ensures.cells };
       soon = c.requires.soon;
+      room = c.requires.room;
       some = c.requires.some;
       quota = c.requires.quota;
       many = list-many c.in_ok-dealt.dealt ∙ c.in_ok-dealt.ensures.len;

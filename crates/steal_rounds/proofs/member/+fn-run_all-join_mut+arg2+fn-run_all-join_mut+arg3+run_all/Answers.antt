@@ -7,7 +7,7 @@ use Rattle.steal_rounds.proofs.member.+fn-run_all-join_mut+arg2+fn-run_all-join_
 
 pub returns : goal.returns
 returns g t c =
-    let went = Went c.args.project.now c.args.table.now c.args.records.now c.args.rows.now c.args.round in
+    let went = Went c.args.project.now c.args.records.now c.args.rows.now c.args.round in
     let x = c.split_at_mut-front.result.0.now in
     let y = c.split_at_mut-front.result.1.now in
     let front : AllZip went x c.front-1.given.0 = search rules in

@@ -14,6 +14,7 @@ returns g c =
             nodes = from-answer c.work-done.result _ good e.nodes;
             work = from-answer c.work-done.result _ good e.work;
             counts = from-answer c.work-done.result _ good e.counts;
+            few = from-answer c.work-done.result _ good e.few;
             moves = from-answer c.work-done.result _ good e.moves;
             keeps = from-answer c.work-done.result _ good e.keeps;
           };

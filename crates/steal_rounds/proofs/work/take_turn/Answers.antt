@@ -1,7 +1,7 @@
 use Rattle.std.proofs.Common.{◌≡◌, ◌∙◌, ◌+◌, refl, sym, ap, subst, arith, ◌∷◌, length, All}
 use Rattle.precedence_tree.specs.Node.{NodeState, StandsFor}
 use Rattle.search_rounds.specs.declared.round.WaitingNode.{WaitingNode}
-use Rattle.steal_rounds.specs.Part.{part_state}
+use Rattle.steal_rounds.specs.Lists.{part_state}
 use Rattle.steal_rounds.proofs.ChildRows.{kid-stands}
 use Rattle.steal_rounds.proofs.ClosedNodes.{cited-within}
 use Rattle.steal_rounds.proofs.TurnSteps.{same_part, closed-keeps, expanded-keeps, back-keeps}
@@ -19,7 +19,7 @@ returns-in-Closed-clause-keeps g c =
     let v = closed-visit c.args.project.now c.args.records.now.index c.args.rows.now _ _ c.args.next.node c.in-Closed.field-0 _ _ c.in_ok-close.field-0 c.in-Closed.close c.in_ok-close.ensures.visits c.in-Closed.is in
     let s = part_state c.args.part.now in
     let is = c.in_ok-closed-in-Closed.ensures in
-    closed-keeps c.args.project.now c.args.rows.now v.best c.args.table.now c.args.records.now c.args.origin c.args.next _ _ s _ c.in-Closed.close c.known.ensures c.requires.node
+    closed-keeps c.args.project.now c.args.rows.now v.best c.args.records.now c.args.origin c.args.next _ _ s _ c.in-Closed.close c.known.ensures c.requires.node
     c.requires.places v.low v.falls c.requires.turn v.closes v.expanded (same_part _ _ is.grown is.fills is.live is.made is.left)
 
 pub returns-in-Closed-clause-counts : goal.returns-in-Closed-clause-counts
@@ -39,8 +39,7 @@ expanded-requires-clause-room g c =
     let grown = c.requires.counts.grown in
     let turn = c.requires.turn in
     let most = c.requires.few in
-    let rows = c.requires.room in
-    let a = c.len.ensures in
+    let worker = c.requires.worker in
     let d : length c.as_slice.result.now ≡ length c.args.part.now.grown.items = ap length c.as_slice.ensures.value in
     omega arith
 
@@ -59,9 +58,12 @@ pub returns-in-Expanded-clause-keeps : goal.returns-in-Expanded-clause-keeps
 returns-in-Expanded-clause-keeps g c =
     let v = expanded-visit c.args.project.now c.args.records.now.index c.args.rows.now _ _ c.args.next.node c.in-Expanded.field-0 _ _ c.in_ok-close.field-0 c.in-Expanded.children c.in-Expanded.known c.in_ok-close.ensures.visits c.in-Expanded.is in
     let s = part_state c.args.part.now in
-    let a = c.len.ensures in
+    let few = few-kids c.args.project.now c.args.next.node c.in-Expanded.children c.known.ensures.limits v.expanding.are in
+    let grown = c.requires.counts.grown in
+    let turn = c.requires.turn in
+    let most = c.requires.few in
     let d : length c.as_slice.result.now ≡ length c.args.part.now.grown.items = ap length c.as_slice.ensures.value in
-    expanded-keeps c.args.project.now v.best c.args.table.now c.args.records.now c.args.origin c.args.next _ _ s _ c.in-Expanded.children c.in-Expanded.known _ v.low v.falls c.requires.turn (omega arith) v.expanding c.in_ok-expanded-in-Expanded.ensures
+    expanded-keeps c.args.project.now v.best c.args.records.now c.args.origin c.args.next _ _ s _ c.in-Expanded.children c.in-Expanded.known _ v.low v.falls c.requires.turn (omega arith) (omega arith) v.expanding c.in_ok-expanded-in-Expanded.ensures
 
 pub returns-clause-counts : goal.returns-clause-counts
 returns-clause-counts g c =
@@ -72,5 +74,5 @@ pub returns-clause-keeps : goal.returns-clause-keeps
 returns-clause-keeps g c =
     let v = back-visit c.args.project.now c.args.records.now.index c.args.rows.now _ _ c.args.next.node c.in-Back.node _ _ c.in_ok-close.field-0 c.in_ok-close.ensures.visits c.in-Back.is in
     let s = part_state c.args.part.now in
-    back-keeps c.args.project.now c.args.table.now c.args.records.now c.args.origin c.args.next _ _ s _ v.falls v.offers v.expanded v.live
+    back-keeps c.args.project.now c.args.records.now c.args.origin c.args.next _ _ s _ v.falls v.offers v.expanded v.live
     (same_part _ _ refl refl refl refl (c.in_ok-put-in-Back.ensures ∙ ap (λ (n : NodeState). let w : WaitingNode = record { place = c.args.next.place; node = n } in w ∷ s.left) v.same))

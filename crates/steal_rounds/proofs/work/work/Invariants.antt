@@ -2,7 +2,7 @@ use Rattle.std.proofs.Common.{◌≡◌, length, All}
 use Rattle.precedence_tree.specs.Node.{StandsFor}
 use Rattle.tree_worker.specs.Worker.{IsAtWork}
 use Rattle.tree_worker.specs.Visits.{StaysOf}
-use Rattle.steal_rounds.specs.Turns.{stage_of, KeepsPart, Counts}
+use Rattle.steal_rounds.specs.Turns.{stage_of, KeepsShare, Counts}
 use Rattle.steal_rounds.proofs.work.work.Given as goal
 
 abbrev pub invariant-loop-done : goal.invariant-loop-done
@@ -16,5 +16,5 @@ invariant-loop-done g l = record {
   fills : length l.part.fills.items ≡ l.done;
   number : l.number ≡ l.pass.view.number;
   first : l.done ≡ 0 → l.part.source ≡ l.initial.part.source;
-  keeps : KeepsPart l.project l.table l.records (record { round = l.round; worker = l.number; turn = 0 }) (stage_of l.initial.worker l.initial.pass l.initial.part) (stage_of l.worker l.pass l.part);
+  keeps : KeepsShare l.project l.records (record { round = l.round; worker = l.number; turn = 0 }) (stage_of l.initial.worker l.initial.pass l.initial.part) (stage_of l.worker l.pass l.part);
 }

@@ -1,0 +1,152 @@
+-- What the members of a crew did, joined one after another, is what the crew did.
+use Rattle.std.proofs.Common.{◌≡◌, ℕ, ◌+◌, refl, sym, ap, ◌∙◌, arith, List, [], ◌∷◌, ◌++◌, length, length-append, append_assoc, append-nil, map, Global}
+use Rattle.std.specs.declared.vec.Vec.{Vec}
+use Rattle.std.proofs.lemmas.List.{length-map, map-append}
+use Rattle.rcpsp_model.specs.Project.{Project}
+use Rattle.search_log.specs.declared.row.Fill.{Fill}
+use Rattle.search_log.specs.Weights.{total}
+use Rattle.search_log.specs.Stands.{Waiting}
+use Rattle.search_rounds.specs.declared.round.NewRow.{NewRow}
+use Rattle.search_rounds.specs.declared.round.PlacedRecord.{PlacedRecord}
+use Rattle.search_rounds.specs.declared.round.WaitingNode.{WaitingNode}
+use Rattle.search_rounds.specs.Round.{waiting_of}
+use Rattle.tree_worker.specs.Worker.{Progress}
+use Rattle.round_shares.specs.Part.{PartState}
+use Rattle.round_shares.specs.Share.{Handled}
+use Rattle.round_shares.specs.Crew.{Worked, starts_from, real_fill, real_record, real_waiting, all_grown, all_fills, all_live, all_made, all_left, all_got, all_given, IsHandedOn, crew_part, joined_progress, crew_progress}
+use Rattle.steal_rounds.specs.declared.member.Member.{Member}
+use Rattle.steal_rounds.specs.declared.gathering.Whole.{Whole}
+use Rattle.steal_rounds.specs.Lists.{part_state, new_part}
+use Rattle.steal_rounds.specs.Dealt.{all_dealt}
+use Rattle.steal_rounds.specs.Members.{progress_of}
+use Rattle.steal_rounds.specs.Whole.{whole_state, worked, joined_part, IsWholeOf}
+use Rattle.steal_rounds.proofs.ChildRows.{waiting-append}
+use Rattle.steal_rounds.proofs.TurnSteps.{same_part}
+
+-- the lists of all members, joined to the lists s
+abbrev pub joined_parts : List ℕ → PartState → List Member → PartState
+joined_parts starts s [] = s
+joined_parts starts s (m ∷ ms) = joined_parts starts (joined_part starts s (part_state m.part)) ms
+
+-- those of workers, behind the lists s
+abbrev behind : List ℕ → PartState → List Worked → PartState
+behind starts s ws = record {
+  grown = s.grown ++ all_grown ws;
+  fills = s.fills ++ map (real_fill starts) (all_fills ws);
+  live = s.live ++ all_live (length s.fills) ws;
+  made = s.made ++ map (real_record starts) (all_made ws);
+  left = s.left ++ map (real_waiting starts) (all_left ws);
+}
+
+joined-behind : (starts : List ℕ) (s : PartState) (ms : List Member) → joined_parts starts s ms ≡ behind starts s (map worked ms)
+joined-behind starts s [] =
+    same_part s (behind starts s []) (sym (append-nil s.grown)) (sym (append-nil s.fills)) (sym (append-nil s.live)) (sym (append-nil s.made)) (sym (append-nil s.left))
+joined-behind starts s (m ∷ ms) =
+    let t = part_state m.part in
+    let ws = map worked ms in
+    let many : length (s.fills ++ map (real_fill starts) t.fills) ≡ length s.fills + length t.fills =
+    length-append s.fills (map (real_fill starts) t.fills) ∙ ap (λ (n : ℕ). length s.fills + n) (length-map t.fills (real_fill starts)) in
+    joined-behind starts (joined_part starts s t) ms
+    ∙ same_part (behind starts (joined_part starts s t) ws) (behind starts s (map worked (m ∷ ms)))
+    (append_assoc s.grown t.grown (all_grown ws))
+    (append_assoc s.fills (map (real_fill starts) t.fills) (map (real_fill starts) (all_fills ws)) ∙ ap (λ (xs : List Fill). s.fills ++ xs) (sym (map-append (real_fill starts) t.fills (all_fills ws))))
+    (append_assoc s.live (map (λ (i : ℕ). length s.fills + i) t.live) (all_live (length (s.fills ++ map (real_fill starts) t.fills)) ws)
+    ∙ ap (λ (n : ℕ). s.live ++ (map (λ (i : ℕ). length s.fills + i) t.live ++ all_live n ws)) many)
+    (append_assoc s.made (map (real_record starts) t.made) (map (real_record starts) (all_made ws)) ∙ ap (λ (xs : List PlacedRecord). s.made ++ xs) (sym (map-append (real_record starts) t.made (all_made ws))))
+    (append_assoc s.left (map (real_waiting starts) t.left) (map (real_waiting starts) (all_left ws)) ∙ ap (λ (xs : List WaitingNode). s.left ++ xs) (sym (map-append (real_waiting starts) t.left (all_left ws))))
+
+pub joined-crew : (starts : List ℕ) (ms : List Member) → joined_parts starts (new_part []) ms ≡ crew_part starts (map worked ms) []
+joined-crew starts ms =
+    let ws = map worked ms in
+    joined-behind starts (new_part []) ms
+    ∙ same_part (behind starts (new_part []) ws) (crew_part starts ws []) refl refl refl refl (ap (map (real_waiting starts)) (sym (append-nil (all_left ws))))
+
+-- the places in the table of the first new row of each
+abbrev pub starts_in : ℕ → List Member → List ℕ
+starts_in table ms = starts_from table (map worked ms)
+
+pub whole-joined : (P : Project) (table : ℕ) (ms : List Member) (whole : Whole) → IsWholeOf P table ms whole → whole_state whole ≡ joined_parts (starts_in table ms) (new_part []) ms
+whole-joined P table ms whole is = is.lists ∙ sym (joined-crew (starts_in table ms) ms)
+
+-- What each was dealt.
+
+-- the nodes that were dealt to a worker; it gave none away
+abbrev pub dealt_to : List WaitingNode → Handled
+dealt_to dealt = record { got = waiting_of dealt; given = [] }
+
+-- each worker, with what it was dealt
+abbrev pub crew_of : List (Vec WaitingNode Global) → List Member → List Worked
+crew_of [] ms = []
+crew_of (l ∷ lists) [] = []
+crew_of (l ∷ lists) (m ∷ ms) = record (worked m) { handled = dealt_to l.items } ∷ crew_of lists ms
+
+-- the same lists
+record AreAlike (ws vs : List Worked) : Type 0 where
+  pub grown : all_grown ws ≡ all_grown vs
+  pub fills : all_fills ws ≡ all_fills vs
+  pub live : (n : ℕ) → all_live n ws ≡ all_live n vs
+  pub made : all_made ws ≡ all_made vs
+  pub left : all_left ws ≡ all_left vs
+  pub starts : (p : ℕ) → starts_from p ws ≡ starts_from p vs
+
+alike : (lists : List (Vec WaitingNode Global)) (ms : List Member) → length ms ≡ length lists → AreAlike (crew_of lists ms) (map worked ms)
+alike [] [] e = record { grown = refl; fills = refl; live = λ n. refl; made = refl; left = refl; starts = λ p. refl }
+alike [] (m ∷ ms) e = absurd (omega arith)
+alike (l ∷ lists) [] e = absurd (omega arith)
+alike (l ∷ lists) (m ∷ ms) e =
+    let t = part_state m.part in
+    let a = alike lists ms (omega arith) in
+    record {
+      grown = ap (λ (xs : List NewRow). t.grown ++ xs) a.grown;
+      fills = ap (λ (xs : List Fill). t.fills ++ xs) a.fills;
+      live = λ n. ap (λ (xs : List ℕ). map (λ (i : ℕ). n + i) t.live ++ xs) (a.live (n + length t.fills));
+      made = ap (λ (xs : List PlacedRecord). t.made ++ xs) a.made;
+      left = ap (λ (xs : List WaitingNode). t.left ++ xs) a.left;
+      starts = λ p. ap (λ (ps : List ℕ). p ∷ ps) (a.starts (p + length t.grown));
+    }
+
+-- whatever each handled
+pub crew-dealt : (table : ℕ) (lists : List (Vec WaitingNode Global)) (ms : List Member) → length ms ≡ length lists →
+    crew_part (starts_from table (crew_of lists ms)) (crew_of lists ms) [] ≡ crew_part (starts_in table ms) (map worked ms) []
+crew-dealt table lists ms e =
+    let a = alike lists ms e in
+    let ws = crew_of lists ms in
+    let vs = map worked ms in
+    let s = a.starts table in
+    same_part (crew_part (starts_from table ws) ws []) (crew_part (starts_from table vs) vs []) a.grown
+    (ap (λ (ps : List ℕ). map (real_fill ps) (all_fills ws)) s ∙ ap (map (real_fill (starts_from table vs))) a.fills) (a.live 0)
+    (ap (λ (ps : List ℕ). map (real_record ps) (all_made ws)) s ∙ ap (map (real_record (starts_from table vs))) a.made)
+    (ap (λ (ps : List ℕ). map (real_waiting ps) (all_left ws ++ [])) s ∙ ap (λ (xs : List WaitingNode). map (real_waiting (starts_from table vs)) (xs ++ [])) a.left)
+
+pub crew-many : (lists : List (Vec WaitingNode Global)) (ms : List Member) → length ms ≡ length lists → length (crew_of lists ms) ≡ length lists
+crew-many [] ms e = refl
+crew-many (l ∷ lists) [] e = absurd (omega arith)
+crew-many (l ∷ lists) (m ∷ ms) e = let ih = crew-many lists ms (omega arith) in omega arith
+
+-- what all have seen, done and cited
+abbrev pub all_progress : Progress → List Member → Progress
+all_progress at [] = at
+all_progress at (m ∷ ms) = all_progress (joined_progress at (progress_of m)) ms
+
+pub crew-progress : (at : Progress) (lists : List (Vec WaitingNode Global)) (ms : List Member) → length ms ≡ length lists → crew_progress at (crew_of lists ms) ≡ all_progress at ms
+crew-progress at [] [] e = refl
+crew-progress at [] (m ∷ ms) e = absurd (omega arith)
+crew-progress at (l ∷ lists) [] e = absurd (omega arith)
+crew-progress at (l ∷ lists) (m ∷ ms) e = crew-progress (joined_progress at (progress_of m)) lists ms (omega arith)
+
+crew-got : (lists : List (Vec WaitingNode Global)) (ms : List Member) → length ms ≡ length lists → all_got (crew_of lists ms) ≡ waiting_of (all_dealt lists)
+crew-got [] ms e = refl
+crew-got (l ∷ lists) [] e = absurd (omega arith)
+crew-got (l ∷ lists) (m ∷ ms) e = ap (λ (ws : List Waiting). waiting_of l.items ++ ws) (crew-got lists ms (omega arith)) ∙ sym (waiting-append l.items (all_dealt lists))
+
+crew-given : (lists : List (Vec WaitingNode Global)) (ms : List Member) → all_given (crew_of lists ms) ≡ []
+crew-given [] ms = refl
+crew-given (l ∷ lists) [] = refl
+crew-given (l ∷ lists) (m ∷ ms) = crew-given lists ms
+
+-- each node that was dealt came to one of them
+pub crew-handed : (lists : List (Vec WaitingNode Global)) (ms : List Member) → length ms ≡ length lists → IsHandedOn (all_dealt lists) (crew_of lists ms) []
+crew-handed lists ms e weight =
+    let a = ap (total weight) (crew-got lists ms e) in
+    let b = ap (total weight) (crew-given lists ms) in
+    omega arith
