@@ -1,5 +1,5 @@
 -- A share at its start.
-use Rattle.std.proofs.Common.{◌≡◌, ℕ, ◌+◌, ◌*◌, ◌<◌, ◌≤◌, inl, refl, sym, ap, subst, arith, List, [], ◌++◌, append-nil, length, map, All}
+use Rattle.std.proofs.Common.{◌≡◌, ℕ, ◌+◌, ◌*◌, ◌<◌, ◌≤◌, inl, refl, sym, ap, subst, arith, List, [], ◌++◌, append-nil, ◌∙◌, length, map, All}
 use Rattle.std.specs.List.{AllZip}
 use Rattle.std.proofs.lemmas.List.Elements.{All-nil}
 use Rattle.rcpsp_model.specs.Project.{Project}
@@ -12,14 +12,27 @@ use Rattle.search_rounds.specs.declared.round.WaitingNode.{WaitingNode}
 use Rattle.search_rounds.specs.Round.{waiting_of}
 use Rattle.tree_worker.specs.Worker.{Progress}
 use Rattle.round_shares.specs.Part.{Beginning, IsCitedLive, IsMadeIn, IsOffered}
-use Rattle.round_shares.specs.Share.{room, first_place, IsPast, IsShare}
+use Rattle.round_shares.specs.Share.{room, first_place, IsPast, Handled, IsShare}
 use Rattle.round_shares.specs.Crew.{IsFresh}
+use Rattle.node_sources.specs.Source.{SourceState, given_by, taken_by}
 use Rattle.steal_rounds.specs.Lists.{new_part}
-use Rattle.steal_rounds.proofs.JoinedMembers.{dealt_to}
+use Rattle.steal_rounds.specs.Sources.{handled_by}
 
 -- the places of these nodes are below those of the new rows of workers
 abbrev pub AreBelowRoom : List Waiting → Type 0
 AreBelowRoom ws = Each (λ w. w.place < room) ws
+
+-- what was dealt to a worker, who took nothing out of deques and gave nothing to one
+abbrev pub dealt_to : List WaitingNode → Handled
+dealt_to dealt = record { got = waiting_of dealt; given = [] }
+
+abbrev handles : List Waiting → List Waiting → Handled
+handles got given = record { got = got; given = given }
+
+pub handled-new : (dealt : List Waiting) (s : SourceState) → given_by s ≡ [] → taken_by s ≡ [] → handled_by dealt s ≡ record { got = dealt; given = [] }
+handled-new dealt s given taken =
+    ap (λ (ws : List WaitingNode). handles (dealt ++ waiting_of ws) (waiting_of (given_by s))) taken
+    ∙ (ap (λ (ws : List WaitingNode). handles (dealt ++ []) (waiting_of ws)) given ∙ ap (λ (ws : List Waiting). handles ws []) (append-nil dealt))
 
 -- what was dealt waits
 pub begin-share : (P : Project) (b : Beginning) (at : Progress) (dealt : List WaitingNode) → IsFresh b at → 1 ≤ b.first_worker → AreBelowRoom (waiting_of dealt) → IsShare P b (dealt_to dealt) at (new_part dealt)

@@ -1,6 +1,5 @@
 -- What the workers of a round published and cited live, once all have ended.
-use Rattle.std.proofs.Common.{◌≡◌, ℕ, zero, suc, ◌+◌, ◌-◌, ◌<◌, ◌≤◌, ◌≢◌, ◌==◌, true, inl, inr, refl, sym, ap, subst, ◌∙◌, arith, List, [], ◌∷◌, ◌++◌, length, length-append, map, All, Option, Some, None, IsSome, Global}
-use Rattle.std.specs.declared.vec.Vec.{Vec}
+use Rattle.std.proofs.Common.{◌≡◌, ℕ, zero, suc, ◌+◌, ◌-◌, ◌<◌, ◌≤◌, ◌≢◌, ◌==◌, true, inl, inr, refl, sym, ap, subst, ◌∙◌, arith, List, [], ◌∷◌, ◌++◌, length, length-append, map, All, Option, Some, None, IsSome}
 use Rattle.std.specs.Prelude.{slice_get, if◌then◌else◌}
 use Rattle.std.specs.List.{AllZip}
 use Rattle.std.proofs.lemmas.Bool.Decides.{nat_tests}
@@ -13,7 +12,6 @@ use Rattle.rcpsp_model.proofs.Lists.{In}
 use Rattle.precedence_tree.specs.declared.base.Base.{Base}
 use Rattle.cutset_store.specs.Index.{fronts_of}
 use Rattle.search_log.specs.Weights.{Each}
-use Rattle.search_rounds.specs.declared.round.WaitingNode.{WaitingNode}
 use Rattle.search_rounds.specs.declared.round.PlacedRecord.{PlacedRecord}
 use Rattle.search_rounds.specs.declared.round.Records.{Records}
 use Rattle.search_table.specs.declared.view.PassView.{PassView}
@@ -25,6 +23,7 @@ use Rattle.shared_rows.specs.Rows.{RowsState, IsNoteOf}
 use Rattle.tree_worker.specs.declared.live.LiveNote.{LiveNote}
 use Rattle.tree_worker.specs.Live.{IsLiveNote}
 use Rattle.tree_worker.specs.Worker.{IsAtWork}
+use Rattle.node_sources.specs.Source.{SourceState}
 use Rattle.steal_rounds.specs.declared.member.Member.{Member}
 use Rattle.steal_rounds.specs.declared.gathering.Shown.{Shown}
 use Rattle.steal_rounds.specs.declared.gathering.Published.{Published}
@@ -52,8 +51,8 @@ abbrev pub HaveWorked : Project → RowsState → ℕ → List Member → Type 0
 HaveWorked P rows number [] = Unit {0}
 HaveWorked P rows number (m ∷ ms) = HasWorked P rows number m × HaveWorked P rows (number + 1) ms
 
-pub all-worked : (P : Project) (records : Records) (rows : RowsState) (round : ℕ) (table : TableId) (v : PassView) (number : ℕ) (lists : List (Vec WaitingNode Global)) (before after : List Member) →
-    AreSeated table v number lists before → AllZip (Went P records rows round) before after → Each IsSound after → HaveWorked P rows number after
+pub all-worked : (P : Project) (records : Records) (rows : RowsState) (round : ℕ) (table : TableId) (v : PassView) (number : ℕ) (ss : List SourceState) (before after : List Member) →
+    AreSeated table v number ss before → AllZip (Went P records rows round) before after → Each IsSound after → HaveWorked P rows number after
 all-worked P records rows round table v number [] [] [] s z a = tt
 all-worked P records rows round table v number [] [] (m ∷ ms) s z a = absurd z
 all-worked P records rows round table v number [] (b ∷ bs) after s z a = absurd s
@@ -61,7 +60,7 @@ all-worked P records rows round table v number (d ∷ ds) [] after s z a = absur
 all-worked P records rows round table v number (d ∷ ds) (b ∷ bs) [] s z a = absurd z
 all-worked P records rows round table v number (d ∷ ds) (b ∷ bs) (m ∷ ms) s z a = (worked s.0 z.0 a.0, all-worked P records rows round table v (number + 1) ds bs ms s.1 z.1 a.1)
   where
-    worked : IsSeated table v number d.items b → Went P records rows round b m → IsSound m → HasWorked P rows number m
+    worked : IsSeated table v number d b → Went P records rows round b m → IsSound m → HasWorked P rows number m
     worked seated went sound = record {
       pass_number = went.stays.number ∙ ap (λ (w : PassView). w.number) seated.pass;
       passes = went.stays.passes ∙ ap (λ (w : PassView). w.passes) seated.pass;
@@ -70,8 +69,8 @@ all-worked P records rows round table v number (d ∷ ds) (b ∷ bs) (m ∷ ms) 
     }
 
 -- each pass stays one of the table, whether or not memory was refused
-pub tables-stay : (P : Project) (records : Records) (rows : RowsState) (round : ℕ) (table : TableId) (v : PassView) (number : ℕ) (lists : List (Vec WaitingNode Global)) (before after : List Member) →
-    AreSeated table v number lists before → AllZip (Went P records rows round) before after → Each (IsOfTable table) after
+pub tables-stay : (P : Project) (records : Records) (rows : RowsState) (round : ℕ) (table : TableId) (v : PassView) (number : ℕ) (ss : List SourceState) (before after : List Member) →
+    AreSeated table v number ss before → AllZip (Went P records rows round) before after → Each (IsOfTable table) after
 tables-stay P records rows round table v number [] [] [] s z = tt
 tables-stay P records rows round table v number [] [] (m ∷ ms) s z = absurd z
 tables-stay P records rows round table v number [] (b ∷ bs) after s z = absurd s
@@ -80,9 +79,9 @@ tables-stay P records rows round table v number (d ∷ ds) (b ∷ bs) [] s z = a
 tables-stay P records rows round table v number (d ∷ ds) (b ∷ bs) (m ∷ ms) s z =
     (let went = z.0 in let seated = s.0 in went.pass_table ∙ seated.pass_table, tables-stay P records rows round table v (number + 1) ds bs ms s.1 z.1)
 
--- there are as many workers as lists of nodes
-pub workers-many : (P : Project) (records : Records) (rows : RowsState) (round : ℕ) (table : TableId) (v : PassView) (number : ℕ) (lists : List (Vec WaitingNode Global)) (before after : List Member) →
-    AreSeated table v number lists before → AllZip (Went P records rows round) before after → length after ≡ length lists
+-- there are as many workers as sources of nodes
+pub workers-many : (P : Project) (records : Records) (rows : RowsState) (round : ℕ) (table : TableId) (v : PassView) (number : ℕ) (ss : List SourceState) (before after : List Member) →
+    AreSeated table v number ss before → AllZip (Went P records rows round) before after → length after ≡ length ss
 workers-many P records rows round table v number [] [] [] s z = refl
 workers-many P records rows round table v number [] [] (m ∷ ms) s z = absurd z
 workers-many P records rows round table v number [] (b ∷ bs) after s z = absurd s

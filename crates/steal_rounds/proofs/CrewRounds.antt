@@ -1,9 +1,10 @@
 -- What all workers did in a round is a round.
-use Rattle.std.proofs.Common.{◌≡◌, ℕ, ◌+◌, ◌<◌, ◌≤◌, inl, refl, sym, ap, subst, ◌∙◌, arith, List, [], ◌∷◌, length, All, Option, None, Global, min, vec_len}
+use Rattle.std.proofs.Common.{◌≡◌, ℕ, ◌+◌, ◌<◌, ◌≤◌, inl, refl, sym, ap, subst, ◌∙◌, arith, List, [], ◌∷◌, ◌++◌, length, map, All, Option, None, Global, min, vec_len}
 use Rattle.std.specs.declared.vec.Vec.{Vec}
 use Rattle.std.specs.Prelude.{IfSome, Contains}
 use Rattle.std.specs.List.{AllZip}
 use Rattle.std.proofs.Common.{IsPermutation, sum_by}
+use Rattle.std.proofs.lemmas.List.Elements.{All-nil, All-cons, All-head, All-tail}
 use Rattle.std.proofs.lemmas.List.Sums.{sum_by-cons}
 use Rattle.std.proofs.lemmas.List.Sorted.{All-permutation, sum_by-IsPermutation}
 use Rattle.atomic_table.specs.Seated.{TableId}
@@ -25,6 +26,7 @@ use Rattle.search_rounds.specs.declared.round.Records.{Records}
 use Rattle.search_rounds.specs.declared.round.Terms.{Terms}
 use Rattle.search_rounds.specs.declared.round.RoundResult.{RoundResult}
 use Rattle.search_rounds.specs.Round.{waiting_of, IsRound, IsRoundOn}
+use Rattle.search_rounds.proofs.FilledSums.{zip-length}
 use Rattle.search_table.specs.declared.view.PassView.{PassView}
 use Rattle.search_table.specs.declared.view.RoundTerms.{RoundTerms}
 use Rattle.search_table.specs.Lists.{least}
@@ -37,21 +39,26 @@ use Rattle.round_shares.specs.Ends.{end_in}
 use Rattle.round_shares.specs.Part.{Beginning, PartState, IsPart}
 use Rattle.round_shares.specs.Share.{room}
 use Rattle.round_shares.specs.Crew.{starts_from, crew_part, crew_progress}
+use Rattle.node_sources.specs.Source.{SourceState, IsSourceOf}
+use Rattle.node_sources.specs.Seats.{Stays}
+use Rattle.node_sources.specs.Seats as seats
+use Rattle.node_sources.specs.Settled.{IsNew, AreNew, IsSettled}
+use Rattle.node_sources.proofs.Stays.{seated-still, sources-still}
 use Rattle.steal_rounds.specs.Lists.{new_part}
 use Rattle.steal_rounds.specs.Dealt.{all_dealt, AreDealt}
 use Rattle.steal_rounds.specs.Members.{with_workers, AreSeated, IsReady, Went}
-use Rattle.steal_rounds.specs.Whole.{whole_state, IsShort, IsOfTable, IsSound, joined_views, best_plan, IsWholeOf}
+use Rattle.steal_rounds.specs.Whole.{whole_state, IsShort, IsOfTable, IsSound, joined_views, source_of, best_plan, IsWholeOf}
 use Rattle.steal_rounds.specs.Cited.{ArePublished, AreToBeCited, AreFills, IsRowOf}
 use Rattle.steal_rounds.specs.Ended.{result_of, resolved_part, HasEnded}
 use Rattle.steal_rounds.specs.Settled.{Settles, EndsAs}
-use Rattle.steal_rounds.proofs.PartSteps.{node-inside}
+use Rattle.round_shares.proofs.ShareVisits.{node-inside}
 use Rattle.steal_rounds.proofs.WiderParts.{in_order-each}
 use Rattle.steal_rounds.proofs.BegunShares.{AreBelowRoom}
 use Rattle.steal_rounds.proofs.JoinedMembers.{joined_parts, starts_in, whole-joined, crew_of, crew-dealt, crew-many, all_progress, crew-progress, crew-handed}
 use Rattle.round_shares.proofs.CrewParts.{crew_law}
 use Rattle.steal_rounds.proofs.ResolvedRounds.{resolved-round}
 use Rattle.steal_rounds.proofs.CitedNotes.{SeesNoMore, StandsForAll, all-worked, tables-stay, workers-many, passes-joined, published-notes, notes-to_cite, live-fills}
-use Rattle.steal_rounds.proofs.CrewParts.{crew_beginning, all-ready, progress-pass, progress-live, shares-done, HasEndedPart, all-ended, plans-short, sound-ended, fronts-of, lives-of, numbers-of, won-made, left-stand, plan-best, some-move}
+use Rattle.steal_rounds.proofs.CrewParts.{crew_beginning, all-ready, sources-new, sources-stay, progress-pass, progress-live, shares-done, HasEndedPart, all-ended, plans-short, sound-ended, fronts-of, lives-of, numbers-of, won-made, left-stand, plan-best, some-move}
 
 -- the words of a round begin with its terms
 pub record Begins (terms : Terms) (workers : ℕ) (rows : RowsState) (words : RoundTerms) : Type 0 where
@@ -61,7 +68,7 @@ pub record Begins (terms : Terms) (workers : ℕ) (rows : RowsState) (words : Ro
   pub of_rows : rows.workers ≡ workers
   pub cells : rows.cells ≡ terms.quota
 
--- workers took their seats, each with its nodes, and did their parts
+-- workers took their seats, each with a source that has its nodes, and did their parts
 pub record Ran (P : Project) (table : Table) (records : Records) (terms : Terms) (workers : ℕ) (rows : RowsState) (words : TableId) (round : RoundTerms) (frontier : List WaitingNode) (lists : List (Vec WaitingNode Global)) (before after : List Member) : Type 0 where
   pub begins : Begins terms workers rows round
   pub soon : IfSome terms.best (λ end. end ≤ 1290000)
@@ -70,32 +77,65 @@ pub record Ran (P : Project) (table : Table) (records : Records) (terms : Terms)
   pub quota : 0 < terms.quota
   pub many : length lists ≡ workers
   pub dealt : AreDealt frontier (all_dealt lists)
-  pub seated : AreSeated words (first_view round) 1 lists before
+  pub sources : List SourceState
+  pub new : AreNew P lists sources
+  pub seated : AreSeated words (first_view round) 1 sources before
   pub went : AllZip (Went P records rows terms.number) before after
 
 dealt-nodes : (P : Project) (frontier dealt : List WaitingNode) → AreDealt frontier dealt → All (λ w. StandsFor P w.node) frontier → All (λ w. StandsFor P w.node) dealt
 dealt-nodes P frontier dealt d nodes =
     All-from_In (λ (w : WaitingNode). StandsFor P w.node) dealt (λ w i. In-All (λ (x : WaitingNode). StandsFor P x.node) frontier nodes w (In-from_Contains frontier w (In-All (Contains frontier) dealt d.among w i)))
 
-pub list-many : (lists : Vec (Vec WaitingNode Global) Global) → length lists.items ≡ vec_len lists
-list-many lists = sym (lists.ok.0)
+-- as their sources want them
+lists-stand : (P : Project) (lists : List (Vec WaitingNode Global)) → All (λ w. StandsFor P w.node) (all_dealt lists) → Each (λ list. All (λ w. StandsFor P w.node) list.items) lists
+lists-stand P [] a = tt
+lists-stand P (l ∷ lists) a = (front l.items a, lists-stand P lists (back l.items a))
+  where
+    front : (xs : List WaitingNode) → All (λ w. StandsFor P w.node) (xs ++ all_dealt lists) → All (λ w. StandsFor P w.node) xs
+    front [] a = All-nil (λ (w : WaitingNode). StandsFor P w.node)
+    front (x ∷ xs) a =
+        All-cons (λ (w : WaitingNode). StandsFor P w.node) x xs (All-head (λ (w : WaitingNode). StandsFor P w.node) x (xs ++ all_dealt lists) a) (front xs (All-tail (λ (w : WaitingNode). StandsFor P w.node) x (xs ++ all_dealt lists) a))
+
+    back : (xs : List WaitingNode) → All (λ w. StandsFor P w.node) (xs ++ all_dealt lists) → All (λ w. StandsFor P w.node) (all_dealt lists)
+    back [] a = a
+    back (x ∷ xs) a = back xs (All-tail (λ (w : WaitingNode). StandsFor P w.node) x (xs ++ all_dealt lists) a)
+
+pub dealt-stand : (P : Project) (frontier : List WaitingNode) (lists : List (Vec WaitingNode Global)) → AreDealt frontier (all_dealt lists) → All (λ w. StandsFor P w.node) frontier → Each (λ list. All (λ w. StandsFor P w.node) list.items) lists
+dealt-stand P frontier lists dealt nodes = lists-stand P lists (dealt-nodes P frontier (all_dealt lists) dealt nodes)
+
+pub list-many : {X : Type 0} (xs : Vec X Global) → length xs.items ≡ vec_len xs
+list-many xs = sym (xs.ok.0)
+
+-- there are as many sources as lists
+pub sources-many : (P : Project) (lists : List (Vec WaitingNode Global)) (sources : List SourceState) → AreNew P lists sources → length sources ≡ length lists
+sources-many P lists sources new = sym (zip-length (IsNew P) lists sources new.each)
+
+pub vec-many : (P : Project) (lists : Vec (Vec WaitingNode Global) Global) (sources : Vec SourceState Global) → AreNew P lists.items sources.items → vec_len sources ≡ vec_len lists
+vec-many P lists sources new = sym (list-many sources) ∙ (sources-many P lists.items sources.items new ∙ list-many lists)
 
 -- before they begin
-pub begin-ready : (P : Project) (terms : Terms) (workers : ℕ) (rows : RowsState) (words : TableId) (round : RoundTerms) (frontier : List WaitingNode) (lists : List (Vec WaitingNode Global)) (ms : List Member) → Begins terms workers rows round → workers ≤ 32 → length lists ≡ workers →
-    AreDealt frontier (all_dealt lists) → All (λ w. StandsFor P w.node) frontier → AreSeated words (first_view round) 1 lists ms → All (IsReady P words rows) ms
-begin-ready P terms workers rows words round frontier lists ms b few many dealt nodes seated =
+pub begin-ready : (P : Project) (terms : Terms) (workers : ℕ) (rows : RowsState) (words : TableId) (round : RoundTerms) (lists : List (Vec WaitingNode Global)) (sources : List SourceState) (ms : List Member) → Begins terms workers rows round → workers ≤ 32 → length lists ≡ workers →
+    AreNew P lists sources → AreSeated words (first_view round) 1 sources ms → All (IsReady P words rows) ms
+begin-ready P terms workers rows words round lists sources ms b few many new seated =
     let q = b.quota in
     let c = b.cells in
-    all-ready P rows words (first_view round) 1 lists ms seated (omega arith) (omega arith) (b.of_words ∙ sym b.of_rows) (omega arith) (dealt-nodes P frontier (all_dealt lists) dealt nodes)
+    let same = sources-many P lists sources new in
+    let order = new.seated in
+    all-ready P rows words (first_view round) 1 sources ms seated (omega arith) (omega arith) (b.of_words ∙ sym b.of_rows) (omega arith) order.numbers (sources-new P lists sources new.each)
 
 pub ran-passes : (P : Project) (table : Table) (records : Records) (terms : Terms) (workers : ℕ) (rows : RowsState) (words : TableId) (round : RoundTerms) (frontier : List WaitingNode) (lists : List (Vec WaitingNode Global)) (before after : List Member) →
     Ran P table records terms workers rows words round frontier lists before after → Each (IsOfTable words) after
-ran-passes P table records terms workers rows words round frontier lists before after r = tables-stay P records rows terms.number words (first_view round) 1 lists before after r.seated r.went
+ran-passes P table records terms workers rows words round frontier lists before after r = tables-stay P records rows terms.number words (first_view round) 1 r.sources before after r.seated r.went
 
 ran-ended : (P : Project) (table : Table) (records : Records) (terms : Terms) (workers : ℕ) (rows : RowsState) (words : TableId) (round : RoundTerms) (frontier : List WaitingNode) (lists : List (Vec WaitingNode Global)) (before after : List Member) →
     Ran P table records terms workers rows words round frontier lists before after → Each (λ n. IsSound n → HasEndedPart P n) after
 ran-ended P table records terms workers rows words round frontier lists before after r =
-    all-ended P records terms rows words (first_view round) 1 lists before after r.seated r.went
+    all-ended P records terms rows words (first_view round) 1 r.sources before after r.seated r.went
+
+pub ran-sources : (P : Project) (table : Table) (records : Records) (terms : Terms) (workers : ℕ) (rows : RowsState) (words : TableId) (round : RoundTerms) (frontier : List WaitingNode) (lists : List (Vec WaitingNode Global)) (before after : List Member) →
+    Ran P table records terms workers rows words round frontier lists before after → seats.AreSeated (map source_of after)
+ran-sources P table records terms workers rows words round frontier lists before after r =
+    seated-still r.sources (map source_of after) (sources-stay P records rows terms.number words (first_view round) 1 r.sources before after r.seated r.went) r.new.seated
 
 pub ran-plans : (P : Project) (table : Table) (records : Records) (terms : Terms) (workers : ℕ) (rows : RowsState) (words : TableId) (round : RoundTerms) (frontier : List WaitingNode) (lists : List (Vec WaitingNode Global)) (before after : List Member) →
     Ran P table records terms workers rows words round frontier lists before after → Each (λ m. IsSound m → IfSome m.worker.plan (IsShort P)) after
@@ -111,13 +151,13 @@ pub record Gathered (P : Project) (table : Table) (records : Records) (terms : T
 
 many-after : (P : Project) (table : Table) (records : Records) (terms : Terms) (workers : ℕ) (rows : RowsState) (words : TableId) (round : RoundTerms) (frontier : List WaitingNode) (lists : List (Vec WaitingNode Global)) (before after : List Member) →
     Ran P table records terms workers rows words round frontier lists before after → length after ≡ workers
-many-after P table records terms workers rows words round frontier lists before after r = workers-many P records rows terms.number words (first_view round) 1 lists before after r.seated r.went ∙ r.many
+many-after P table records terms workers rows words round frontier lists before after r = workers-many P records rows terms.number words (first_view round) 1 r.sources before after r.seated r.went ∙ (sources-many P lists r.sources r.new ∙ r.many)
 
 pub gathered-view : (P : Project) (table : Table) (records : Records) (terms : Terms) (workers : ℕ) (rows : RowsState) (words : TableId) (round : RoundTerms) (frontier : List WaitingNode) (lists : List (Vec WaitingNode Global)) (before after : List Member)
     (whole : Whole) (view : PassView) → Gathered P table records terms workers rows words round frontier lists before after whole view → StandsForAll round view
 gathered-view P table records terms workers rows words round frontier lists before after whole view g =
     let r = g.ran in
-    passes-joined P rows round workers (first_view round) view after refl (all-worked P records rows terms.number words (first_view round) 1 lists before after r.seated r.went g.sound)
+    passes-joined P rows round workers (first_view round) view after refl (all-worked P records rows terms.number words (first_view round) 1 r.sources before after r.seated r.went g.sound)
     (many-after P table records terms workers rows words round frontier lists before after r) g.joined
 
 -- as the citing of live records wants it
@@ -131,7 +171,7 @@ pub gathered-citable : (P : Project) (table : Table) (records : Records) (terms 
     (whole : Whole) (view : PassView) → Gathered P table records terms workers rows words round frontier lists before after whole view → SeesNoMore workers view → AreCitable rows whole
 gathered-citable P table records terms workers rows words round frontier lists before after whole view g closed =
     let r = g.ran in
-    let worked = all-worked P records rows terms.number words (first_view round) 1 lists before after r.seated r.went g.sound in
+    let worked = all-worked P records rows terms.number words (first_view round) 1 r.sources before after r.seated r.went g.sound in
     let ended = sound-ended P after (ran-ended P table records terms workers rows words round frontier lists before after r) g.sound in
     let fills = live-fills P (length table.rows) after whole (lives-of P after ended) (numbers-of P after ended) g.whole_is in
     record {
@@ -232,11 +272,20 @@ gathered-round P table records terms workers rows words round frontier lists bef
     starts : List ℕ
     starts = starts_in (length table.rows) after
 
-    joined : s ≡ joined_parts starts (new_part []) after
+    joined : s ≡ record (joined_parts starts (new_part []) after) { left = s.left }
     joined = whole-joined P (length table.rows) after whole g.whole_is
 
     many : length after ≡ length lists
-    many = workers-many P records rows terms.number words (first_view round) 1 lists before after r.seated r.went
+    many = workers-many P records rows terms.number words (first_view round) 1 r.sources before after r.seated r.went ∙ sources-many P lists r.sources r.new
+
+    stay : AllZip Stays r.sources (map source_of after)
+    stay = sources-stay P records rows terms.number words (first_view round) 1 r.sources before after r.seated r.went
+
+    settled_is : IsSettled (map source_of after) g.whole_is.settled
+    settled_is = g.whole_is.is_settled
+
+    rest : List WaitingNode
+    rest = g.whole_is.settled.rest
 
     pass : at.pass ≡ view
     pass = progress-pass at0 after ∙ sym g.joined
@@ -254,11 +303,11 @@ gathered-round P table records terms workers rows words round frontier lists bef
         let all_many = r.many in
         let rows_few = r.room in
         let e = start in
-        let law : IsPart P b (crew_progress at0 ws) (crew_part (starts_from (length table.rows) ws) ws []) =
-        crew_law P b at0 ws [] r.soon (record { seen = omega arith; offers = refl; expanded = refl; live = refl }) (record { first = refl; last = omega arith; fits = omega arith })
-        (shares-done P table records terms rows words (first_view round) 1 workers (all_dealt lists) lists before after r.soon start (omega arith) below r.seated r.went g.sound) (crew-handed lists after many) in
-        subst (IsPart P b at) (crew-dealt (length table.rows) lists after many ∙ sym g.whole_is.lists)
-        (subst (λ (x : Progress). IsPart P b x (crew_part (starts_from (length table.rows) ws) ws [])) (crew-progress at0 lists after many) law)
+        let law : IsPart P b (crew_progress at0 ws) (crew_part (starts_from (length table.rows) ws) ws rest) =
+        crew_law P b at0 ws rest r.soon (record { seen = omega arith; offers = refl; expanded = refl; live = refl }) (record { first = refl; last = omega arith; fits = omega arith })
+        (shares-done P table records terms rows words (first_view round) 1 workers (all_dealt lists) lists r.sources before after r.soon start (omega arith) below r.new.each r.seated r.went g.sound) (crew-handed lists after g.whole_is.settled many settled_is) in
+        subst (IsPart P b at) (crew-dealt (length table.rows) lists after rest many ∙ sym g.whole_is.lists)
+        (subst (λ (x : Progress). IsPart P b x (crew_part (starts_from (length table.rows) ws) ws rest)) (crew-progress at0 lists after many) law)
 
     live : whole.cited.items ≡ at.worker.live
     live = g.whole_is.cited ∙ sym (progress-live at0 after)
@@ -274,7 +323,7 @@ gathered-round P table records terms workers rows words round frontier lists bef
 
     moves : 0 < length s.fills + view.refused
     moves =
-        let m = some-move P starts records rows terms.number words (first_view round) first 1 lists (new_part []) before after r.seated r.went g.sound (inl (some-dealt frontier (all_dealt lists) r.dealt r.some)) in
+        let m = some-move P starts records rows terms.number words (first_view round) first 1 lists r.sources (new_part []) before after r.new.each r.seated r.went g.sound (inl (some-dealt frontier (all_dealt lists) r.dealt r.some)) in
         let a = ap (λ (t : PartState). length t.fills) joined in
         let d = ap (λ (u : PassView). u.refused) g.joined in
         omega arith
@@ -282,8 +331,11 @@ gathered-round P table records terms workers rows words round frontier lists bef
     brings : HasPlan P view.offers plan
     brings = subst (λ (u : PassView). HasPlan P u.offers plan) (sym g.joined) (plan-best P first None after all tt)
 
+    sources : Each (IsSourceOf P) (map source_of after)
+    sources = sources-still P r.sources (map source_of after) stay (sources-new P lists r.sources r.new.each)
+
     left : All (λ w. StandsFor P w.node) s.left
-    left = subst (λ (t : PartState). All (λ (w : WaitingNode). StandsFor P w.node) t.left) (sym joined) (left-stand P starts (new_part []) after all (All-from_In (λ (w : WaitingNode). StandsFor P w.node) [] (λ w i. absurd i)))
+    left = subst (λ (t : PartState). All (λ (w : WaitingNode). StandsFor P w.node) t.left) (sym g.whole_is.lists) (left-stand P starts after rest sources (settled_is.nodes P sources))
 
     ended : HasEnded P b at s best plan
     ended =

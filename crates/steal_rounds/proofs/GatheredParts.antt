@@ -1,18 +1,22 @@
--- One worker more is gathered.
-use Rattle.std.proofs.Common.{◌≡◌, ℕ, ◌+◌, Bool, true, false, nat_lt, if◌then◌else◌, refl, sym, ap, subst, ◌∙◌, arith, List, [], ◌∷◌, ◌++◌, drop, length, length-append, append_assoc, map, Option, Some, None}
-use Rattle.std.specs.Prelude.{IfSome}
-use Rattle.std.proofs.lemmas.List.{length-map}
+-- One worker more is gathered, and at the end what is left.
+use Rattle.std.proofs.Common.{◌≡◌, ℕ, ◌+◌, Bool, true, false, nat_lt, if◌then◌else◌, refl, sym, ap, subst, ◌∙◌, arith, List, [], ◌∷◌, ◌++◌, drop, length, length-append, append_assoc, append-nil, map, Option, Some, None, Result, Ok, Err}
+use Rattle.std.specs.Prelude.{IfSome, OnOk}
+use Rattle.std.proofs.lemmas.List.{length-map, map-append}
 use Rattle.rcpsp_model.specs.declared.parts.Placing.{Placing}
 use Rattle.rcpsp_model.specs.Project.{Project}
 use Rattle.rcpsp_model.specs.Schedule.{end_of, entries}
+use Rattle.search_rounds.specs.declared.round.WaitingNode.{WaitingNode}
 use Rattle.tree_worker.specs.declared.live.LiveNote.{LiveNote}
+use Rattle.node_sources.specs.Source.{SourceState}
+use Rattle.node_sources.specs.Settled.{IsSettled}
 use Rattle.steal_rounds.specs.declared.member.Member.{Member}
 use Rattle.steal_rounds.specs.declared.gathering.Published.{Published}
 use Rattle.steal_rounds.specs.declared.gathering.Whole.{Whole}
 use Rattle.round_shares.specs.Part.{PartState}
-use Rattle.round_shares.specs.Crew.{real_record}
-use Rattle.steal_rounds.specs.Whole.{whole_state, better_plan, IsShort, all_cited, ArePublishedBy, best_plan, AddsMember}
-use Rattle.steal_rounds.proofs.JoinedMembers.{joined_parts}
+use Rattle.round_shares.specs.Crew.{real_record, real_waiting, all_left, crew_part}
+use Rattle.steal_rounds.specs.Lists.{new_part}
+use Rattle.steal_rounds.specs.Whole.{whole_state, worked, source_of, all_lists, AddsLeft, better_plan, IsShort, all_cited, ArePublishedBy, best_plan, AddsMember}
+use Rattle.steal_rounds.proofs.JoinedMembers.{joined_parts, joined-left, lists-left, joined-crew}
 
 pub short-better : (P : Project) (p q : Option (List Placing)) → IfSome p (IsShort P) → IfSome q (IsShort P) → IfSome (better_plan P p q) (IsShort P)
 short-better P None q a b = b
@@ -48,3 +52,32 @@ gathers P starts old new m rest a = record {
 pub none-dropped : (ms rest : List Member) → ms ≡ rest → rest ≡ drop 1 ms → ms ≡ []
 none-dropped [] rest a b = refl
 none-dropped (m ∷ ms) rest a b = absurd (let e : length (m ∷ ms) ≡ length ms = ap length (a ∙ b) in omega arith)
+
+-- What is left.
+
+pub on-ok : {X E : Type 0} (r : Result X E) (Q R : Type 0) → (Q → R) → OnOk r Q → OnOk r R
+on-ok (Ok x) Q R f q = f q
+on-ok (Err e) Q R f q = tt
+
+-- the lists, and then the rest
+pub added-left : (starts : List ℕ) (before mid after xs ys : List WaitingNode) → mid ≡ before ++ map (real_waiting starts) xs → after ≡ mid ++ map (real_waiting starts) ys → after ≡ before ++ map (real_waiting starts) (xs ++ ys)
+added-left starts before mid after xs ys a b =
+    b ∙ (ap (λ (ws : List WaitingNode). ws ++ map (real_waiting starts) ys) a
+    ∙ (append_assoc before (map (real_waiting starts) xs) (map (real_waiting starts) ys) ∙ ap (λ (ws : List WaitingNode). before ++ ws) (sym (map-append (real_waiting starts) xs ys))))
+
+-- with what is left, the parts of all members are those of the crew
+pub whole-all : (starts : List ℕ) (s : PartState) (left : List WaitingNode) (ms : List Member) (ss : List SourceState) → s ≡ joined_parts starts (new_part []) ms → ss ≡ map source_of ms → (a : AddsLeft starts ss s.left left) →
+    IsSettled (map source_of ms) a.settled × (record s { left = left } ≡ crew_part starts (map worked ms) a.settled.rest)
+whole-all starts s left ms ss e all a =
+    let settled = subst (λ (xs : List SourceState). IsSettled xs a.settled) all a.is in
+    let none : s.left ≡ [] = ap (λ (t : PartState). t.left) e ∙ joined-left starts (new_part []) ms in
+    let lists : all_lists a.settled.lists.items ≡ all_left (map worked ms) = ap all_lists settled.lists ∙ lists-left ms in
+    let is : left ≡ map (real_waiting starts) (all_left (map worked ms) ++ a.settled.rest) =
+    a.left ∙ (ap (λ (ws : List WaitingNode). ws ++ map (real_waiting starts) (all_lists a.settled.lists.items ++ a.settled.rest)) none ∙ ap (λ (ws : List WaitingNode). map (real_waiting starts) (ws ++ a.settled.rest)) lists) in (
+      settled,
+      ap (λ (t : PartState). record t { left = left }) e ∙ (ap (λ (ws : List WaitingNode). record (joined_parts starts (new_part []) ms) { left = ws }) is ∙ joined-crew starts ms a.settled.rest),
+    )
+
+-- the sources that were kept are those of all members
+pub sources-all : (ss : List SourceState) (rest first ms : List Member) → rest ≡ [] → ss ++ map source_of rest ≡ map source_of first → first ≡ ms → ss ≡ map source_of ms
+sources-all ss rest first ms none kept all = sym (append-nil ss) ∙ (sym (ap (λ (xs : List Member). ss ++ map source_of xs) none) ∙ (kept ∙ ap (map source_of) all))

@@ -1,3 +1,4 @@
+pub mod SameParts
 pub mod PartLaws
 pub mod TailLimits
 pub mod ChildRows
@@ -8,6 +9,7 @@ pub mod ShareSteps
 pub mod ClosedNodes
 pub mod TurnSteps
 pub mod VisitTurns
+pub mod SourceTurns
 pub mod TurnChains
 pub mod WiderParts
 pub mod CitedRecords

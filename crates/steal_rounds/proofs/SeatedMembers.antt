@@ -1,14 +1,13 @@
 -- Workers take their seats one after another.
-use Rattle.std.proofs.Common.{◌≡◌, ℕ, zero, suc, ◌+◌, ◌≤◌, refl, sym, ap, subst, ◌∙◌, arith, List, [], ◌∷◌, ◌++◌, length, Global}
-use Rattle.std.specs.declared.vec.Vec.{Vec}
+use Rattle.std.proofs.Common.{◌≡◌, ℕ, zero, suc, ◌+◌, ◌≤◌, refl, sym, ap, subst, ◌∙◌, arith, List, [], ◌∷◌, ◌++◌, length}
 use Rattle.std.proofs.lemmas.Bool.Decides.{nat_tests}
 use Rattle.atomic_table.specs.Seated.{TableId}
 use Rattle.rcpsp_model.specs.Project.{numbers_from}
 use Rattle.project_net.proofs.Appended.{numbers-more}
-use Rattle.search_rounds.specs.declared.round.WaitingNode.{WaitingNode}
 use Rattle.search_table.specs.declared.view.PassView.{PassView}
 use Rattle.search_table.specs.Lists.{Lacks}
 use Rattle.search_table.specs.Views.{with_worker}
+use Rattle.node_sources.specs.Source.{SourceState}
 use Rattle.steal_rounds.specs.declared.member.Member.{Member}
 use Rattle.steal_rounds.specs.Members.{with_workers, IsSeated, AreSeated}
 
@@ -26,9 +25,9 @@ one-more_split n q v e =
     ap (λ (ks : List ℕ). record v { split_off = ks }) (ap (λ (k : ℕ). numbers_from 1 n ++ k ∷ []) (let same : q ≡ 1 + n = omega arith in same) ∙ sym (numbers-more 1 n))
 
 -- and the worker sits down behind the others
-pub one-more_seated : (table : TableId) (v : PassView) (number : ℕ) (lists : List (Vec WaitingNode Global)) (ms : List Member) (dealt : Vec WaitingNode Global) (m : Member) (q : ℕ) → AreSeated table v number lists ms →
-    q ≡ number + length ms → IsSeated table v q dealt.items m → AreSeated table v number (lists ++ dealt ∷ []) (ms ++ m ∷ [])
-one-more_seated table v number [] [] dealt m q all e is = (let same : q ≡ number = omega arith in subst (λ (k : ℕ). IsSeated table v k dealt.items m) same is, tt)
-one-more_seated table v number [] (x ∷ ms) dealt m q all e is = absurd all
-one-more_seated table v number (l ∷ lists) [] dealt m q all e is = absurd all
-one-more_seated table v number (l ∷ lists) (x ∷ ms) dealt m q all e is = (all.0, one-more_seated table v (number + 1) lists ms dealt m q all.1 (omega arith) is)
+pub one-more_seated : (table : TableId) (v : PassView) (number : ℕ) (ss : List SourceState) (ms : List Member) (s : SourceState) (m : Member) (q : ℕ) → AreSeated table v number ss ms → q ≡ number + length ms → IsSeated table v q s m →
+    AreSeated table v number (ss ++ s ∷ []) (ms ++ m ∷ [])
+one-more_seated table v number [] [] s m q all e is = (let same : q ≡ number = omega arith in subst (λ (k : ℕ). IsSeated table v k s m) same is, tt)
+one-more_seated table v number [] (x ∷ ms) s m q all e is = absurd all
+one-more_seated table v number (t ∷ ss) [] s m q all e is = absurd all
+one-more_seated table v number (t ∷ ss) (x ∷ ms) s m q all e is = (all.0, one-more_seated table v (number + 1) ss ms s m q all.1 (omega arith) is)

@@ -21,6 +21,7 @@ use Rattle.search_log.specs.declared.row.RowFate.{RowFate}
 use Rattle.search_log.specs.declared.row.RowFate.TheVariants as fate
 use Rattle.search_log.specs.declared.row.Origin.{Origin}
 use Rattle.search_log.specs.declared.row.Fill.{Fill}
+use Rattle.search_log.specs.declared.table.Table.{Table}
 use Rattle.search_log.specs.Fates.{row_expanded, row_saying}
 use Rattle.search_log.specs.Stands.{TreeNode, HasChildren, searching, one_expanded}
 use Rattle.search_log.specs.Lean.{end_number}
@@ -30,6 +31,7 @@ use Rattle.search_rounds.specs.declared.round.NewRow.{NewRow}
 use Rattle.search_rounds.specs.declared.round.WaitingNode.{WaitingNode}
 use Rattle.search_rounds.specs.declared.round.PlacedRecord.{PlacedRecord}
 use Rattle.search_rounds.specs.declared.round.Records.{Records}
+use Rattle.search_rounds.specs.declared.round.Terms.{Terms}
 use Rattle.search_rounds.proofs.FilledSums.{Contains-left, Contains-right, zip-length}
 use Rattle.shared_rows.specs.Rows.{RowsState}
 use Rattle.tree_worker.specs.declared.answer.Cite.TheVariants.{Earlier, Own, Live}
@@ -43,25 +45,23 @@ use Rattle.round_shares.specs.Part.{Beginning, IsByOneOf, PartState, Event, says
 use Rattle.round_shares.specs.Share.{room, first_place, IsPast, IsRowFor, SuitsFront, Handled, IsShare}
 use Rattle.steal_rounds.specs.Children.{new_row, placed_from}
 use Rattle.steal_rounds.specs.Fates.{IsLive, live_numbers, fate_in, places_of}
-use Rattle.steal_rounds.specs.Turns.{ExpandsAs, beginning, KeepsShare}
+use Rattle.steal_rounds.specs.Turns.{ExpandsAs, beginning}
 use Rattle.round_shares.proofs.EndNumbers.{end-small, later-end}
+use Rattle.steal_rounds.proofs.SameParts.{part_by, same_part}
 use Rattle.steal_rounds.proofs.ChildRows.{kid_nodes, IsKid, AreKids-from, kid-branches, kid-length, kid-rows, kid-born, kid-within, rows-of_new, kid-new}
 use Rattle.steal_rounds.proofs.EventSteps.{pushed, new-event, made-more, live-more, offered-more, later-event, fills-length}
 use Rattle.steal_rounds.proofs.ShareNodes.{front-closed, suits-later, closed-nodes, expanded-nodes, no-child, visited-past, head-past}
 use Rattle.steal_rounds.proofs.ShareSteps.{next_share}
 use Rattle.steal_rounds.proofs.ClosedNodes.{never-expanded, closed-as, OffersIts, closed-offers, closed-live}
 
-abbrev pub part_by : List NewRow → List Fill → List ℕ → List PlacedRecord → List WaitingNode → PartState
-part_by grown fills live made left = record { grown = grown; fills = fills; live = live; made = made; left = left }
-
-pub same_part : (s t : PartState) → s.grown ≡ t.grown → s.fills ≡ t.fills → s.live ≡ t.live → s.made ≡ t.made → s.left ≡ t.left → s ≡ t
-same_part s t a b l c d =
-    ap (λ (x : List NewRow). part_by x s.fills s.live s.made s.left) a ∙ (ap (λ (x : List Fill). part_by t.grown x s.live s.made s.left) b
-    ∙ (ap (λ (x : List ℕ). part_by t.grown t.fills x s.made s.left) l
-    ∙ (ap (λ (x : List PlacedRecord). part_by t.grown t.fills t.live x s.left) c ∙ ap (part_by t.grown t.fills t.live t.made) d)))
-
 abbrev pub fill_by : ℕ → RowFate → Origin → Fill
 fill_by place fate origin = record { place = place; fate = fate; origin = origin }
+
+-- what is a share goes on to be one, whatever nodes the worker handled
+abbrev pub KeepsPart : Project → Records → Origin → Progress → PartState → Progress → PartState → Type 0
+KeepsPart P records origin at s now t =
+    (table : Table) (dealt : List WaitingNode) (terms : Terms) (h : Handled) → terms.number ≡ origin.round → IfSome terms.best (λ end. end ≤ 1290000) → IsShare P (beginning table records origin.worker dealt terms) h at s →
+    IsShare P (beginning table records origin.worker dealt terms) h now t
 
 events-many : {s : PartState} (P : Project) (b : Beginning) (h : Handled) (at : Progress) (old : IsShare P b h at s) → length s.fills ≡ length old.events
 events-many P b h at old = ap length old.fills ∙ fills-length old.events
@@ -126,7 +126,7 @@ pub closed-keeps : (P : Project) (rows : RowsState) (best : ℕ) (records : Reco
     length records.places ≡ length records.index → best ≤ at.pass.least_seen → now.pass.least_seen ≤ best → origin.turn ≡ length s.fills + 1 →
     Closes P (fronts_of records.index) rows best w.node.front at now close → now.worker.expanded ≡ at.worker.expanded →
     t ≡ closed_part s w (fill_by w.place (fate_in records.places (places_of s.made) close) origin) close →
-    KeepsShare P records origin (record { at = at; part = waits_part s w }) (record { at = now; part = t })
+    KeepsPart P records origin at (waits_part s w) now t
 closed-keeps P rows best records origin w at now s t close p stands places low falls turn c same is table dealt terms h number soon old =
     let b = beginning table records origin.worker dealt terms in
     subst (IsShare P b h now) (sym is)
@@ -136,7 +136,7 @@ closed-keeps P rows best records origin w at now s t close p stands places low f
 
 pub back-keeps : (P : Project) (records : Records) (origin : Origin) (w : WaitingNode) (at now : Progress) (s t : PartState) → now.pass.least_seen ≤ at.pass.least_seen → now.pass.offers ≡ at.pass.offers →
     now.worker.expanded ≡ at.worker.expanded → now.worker.live ≡ at.worker.live → t ≡ waits_part s w →
-    KeepsShare P records origin (record { at = at; part = waits_part s w }) (record { at = now; part = t })
+    KeepsPart P records origin at (waits_part s w) now t
 back-keeps P records origin w at now s t falls offers same live is table dealt terms h number soon old =
     let b = beginning table records origin.worker dealt terms in
     let start = old.falls in
@@ -273,10 +273,10 @@ expanded-share P best b h origin w at now s kids known first low falls turn roun
 
 pub expanded-keeps : (P : Project) (best : ℕ) (records : Records) (origin : Origin) (w : WaitingNode) (at now : Progress) (s t : PartState) (kids : List (Child NodeState)) (known : Base) (first : ℕ) → best ≤ at.pass.least_seen →
     now.pass.least_seen ≤ best → origin.turn ≡ length s.fills + 1 → first ≡ first_place origin.worker + length s.grown → length s.grown + length kids ≤ room → Expanding P records.index best w.node at now kids known →
-    ExpandsAs w.place known kids first origin s t → KeepsShare P records origin (record { at = at; part = waits_part s w }) (record { at = now; part = t })
+    ExpandsAs w.place known kids first origin s t → KeepsPart P records origin at (waits_part s w) now (part_by t.grown t.fills t.live t.made (placed_from first kids ++ s.left))
 expanded-keeps P best records origin w at now s t kids known first low falls turn base fits e x table dealt terms h number soon old =
     let b = beginning table records origin.worker dealt terms in
     let m : PlacedRecord = record { place = w.place; known = known } in
     let u : PartState = part_by (s.grown ++ map (new_row origin) kids) (s.fills ++ expansion_fill w kids first origin ∷ []) s.live (s.made ++ m ∷ []) (placed_from first kids ++ s.left) in
-    subst (IsShare P b h now) (sym (same_part t u x.grown x.fills x.live x.made x.left))
+    subst (IsShare P b h now) (sym (same_part (part_by t.grown t.fills t.live t.made u.left) u x.grown x.fills x.live x.made refl))
     (expanded-share P best b h origin w at now s kids known first low falls turn (sym number) (record { from = omega arith; to = omega arith }) base fits e soon old)

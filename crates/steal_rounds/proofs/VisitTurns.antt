@@ -24,6 +24,7 @@ use Rattle.tree_worker.specs.declared.answer.Close.TheVariants.{Leaf, TailBound,
 use Rattle.tree_worker.specs.declared.answer.Visited.{Visited}
 use Rattle.tree_worker.specs.declared.answer.Visited.TheVariants.{Closed, Expanded, Back}
 use Rattle.tree_worker.specs.Worker.{Progress}
+use Rattle.node_sources.specs.Source.{SourceState}
 use Rattle.tree_worker.specs.Visits.{Closes, Did, Visits}
 use Rattle.steal_rounds.specs.Children.{new_row}
 use Rattle.round_shares.specs.Part.{PartState}
@@ -94,9 +95,9 @@ few-kids P node kids limits are =
 one-more : {X : Type 0} (xs ys : List X) (y : X) → ys ≡ xs ++ y ∷ [] → length ys ≡ length xs + 1
 one-more xs ys y e = let a = length-append xs (y ∷ []) in let b : length ys ≡ length (xs ++ y ∷ []) = ap length e in omega arith
 
-pub expanded-counts : (P : Project) (earlier : List Base) (place : ℕ) (node back : NodeState) (at now : Progress) (s t : PartState) (kids : List (Child NodeState)) (base : Base) (first : ℕ) (origin : Origin) → IsWithinLimits P →
-    ExpandedVisit P earlier node at now back kids base → ExpandsAs place base kids first origin s t → Counts (record { at = at; part = s }) → Counts (record { at = now; part = t })
-expanded-counts P earlier place node back at now s t kids base first origin limits v x c =
+pub expanded-counts : (P : Project) (earlier : List Base) (place : ℕ) (node back : NodeState) (at now : Progress) (before after : SourceState) (s t : PartState) (kids : List (Child NodeState)) (base : Base) (first : ℕ) (origin : Origin) → IsWithinLimits P →
+    ExpandedVisit P earlier node at now back kids base → ExpandsAs place base kids first origin s t → Counts (record { at = at; part = s; source = before }) → Counts (record { at = now; part = t; source = after })
+expanded-counts P earlier place node back at now before after s t kids base first origin limits v x c =
     let few = few-kids P node kids limits v.expanding.are in
     let g : length t.grown ≡ length (s.grown ++ map (new_row origin) kids) = ap length x.grown in
     let ga = length-append s.grown (map (new_row origin) kids) in
@@ -153,9 +154,9 @@ soon-now : (P : Project) (start : ℕ) (F : List Entry) (fate : RowFate) (before
 soon-now P start F fate before after (inl same) a = subst (All (λ (e : ℕ). e ≤ 1290000)) (sym same) a
 soon-now P start F fate before after (inr its) a = subst (All (λ (e : ℕ). e ≤ 1290000)) (sym its.offers) (All-cons (λ (e : ℕ). e ≤ 1290000) (end_of P F) before its.soon a)
 
-pub closed-counts : (P : Project) (records : Records) (rows : RowsState) (place : ℕ) (node : NodeState) (at now : Progress) (s t : PartState) (close : Close) (origin : Origin) → IsWithinLimits P → StandsFor P node →
-    ClosedVisit P records.index rows node at now close → ClosesAs records place close origin s t → Counts (record { at = at; part = s }) → Counts (record { at = now; part = t })
-closed-counts P records rows place node at now s t close origin limits stands v x c =
+pub closed-counts : (P : Project) (records : Records) (rows : RowsState) (place : ℕ) (node : NodeState) (at now : Progress) (before after : SourceState) (s t : PartState) (close : Close) (origin : Origin) → IsWithinLimits P → StandsFor P node →
+    ClosedVisit P records.index rows node at now close → ClosesAs records place close origin s t → Counts (record { at = at; part = s; source = before }) → Counts (record { at = now; part = t; source = after })
+closed-counts P records rows place node at now before after s t close origin limits stands v x c =
     let f = one-more s.fills t.fills _ x.fills in
     let g = ap length x.grown in
     let m = ap length x.made in
@@ -183,8 +184,8 @@ closed-counts P records rows place node at now s t close origin limits stands v 
 
 -- A node comes back.
 
-pub back-counts : (node back : NodeState) (at now : Progress) (s t : PartState) → BackVisit node at now back → t.grown ≡ s.grown → t.fills ≡ s.fills → t.live ≡ s.live → t.made ≡ s.made → Counts (record { at = at; part = s }) → Counts (record { at = now; part = t })
-back-counts node back at now s t v grown fills live made c =
+pub back-counts : (node back : NodeState) (at now : Progress) (before after : SourceState) (s t : PartState) → BackVisit node at now back → t.grown ≡ s.grown → t.fills ≡ s.fills → t.live ≡ s.live → t.made ≡ s.made → Counts (record { at = at; part = s; source = before }) → Counts (record { at = now; part = t; source = after })
+back-counts node back at now before after s t v grown fills live made c =
     let g = ap length grown in
     let f = ap length fills in
     let m = ap length made in

@@ -1,6 +1,7 @@
 pub mod Children
 pub mod Fates
 pub mod Lists
+pub mod Sources
 pub mod Turns
 pub mod Dealt
 pub mod Members

@@ -5,7 +5,7 @@ use Rattle.round_shares.specs.Part.{PartState}
 use Rattle.steal_rounds.specs.declared.part.Part.{Part}
 
 abbrev pub part_state : Part → PartState
-part_state p = record { grown = p.grown.items; fills = p.fills.items; live = p.live.items; made = p.made.items; left = p.source }
+part_state p = record { grown = p.grown.items; fills = p.fills.items; live = p.live.items; made = p.made.items; left = p.source.list }
 
 -- a part that has just begun: what was dealt waits
 abbrev pub new_part : List WaitingNode → PartState

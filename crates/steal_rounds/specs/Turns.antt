@@ -8,6 +8,7 @@ use Rattle.cutset_store.specs.Index.{fronts_of}
 use Rattle.search_log.specs.declared.row.RowFate.TheVariants.{Expanded}
 use Rattle.search_log.specs.declared.row.Origin.{Origin}
 use Rattle.search_log.specs.declared.table.Table.{Table}
+use Rattle.search_log.specs.Stands.{Waiting}
 use Rattle.search_rounds.specs.declared.round.WaitingNode.{WaitingNode}
 use Rattle.search_rounds.specs.declared.round.Records.{Records}
 use Rattle.search_rounds.specs.declared.round.Terms.{Terms}
@@ -15,19 +16,20 @@ use Rattle.search_table.specs.PassState.{PassState}
 use Rattle.tree_worker.specs.declared.answer.Close.{Close}
 use Rattle.tree_worker.specs.Worker.{WorkerState, Progress}
 use Rattle.round_shares.specs.Part.{Beginning, PartState}
-use Rattle.round_shares.specs.Share.{Handled, IsShare}
+use Rattle.round_shares.specs.Share.{IsShare}
+use Rattle.node_sources.specs.Source.{SourceState}
 use Rattle.steal_rounds.specs.declared.part.Part.{Part}
-use Rattle.steal_rounds.specs.Children.{new_row, placed_from}
+use Rattle.steal_rounds.specs.Children.{new_row}
 use Rattle.steal_rounds.specs.Fates.{fate_in, live_numbers, places_of}
 use Rattle.steal_rounds.specs.Lists.{part_state}
+use Rattle.steal_rounds.specs.Sources.{handled_by}
 
--- a node was expanded whose record this is, and whose children's rows begin at the place `first`
+-- a node was expanded whose record this is, and whose children's rows begin at the place `first`; apart from what waits
 pub record ExpandsAs (place : ℕ) (base : Base) (children : List (Child NodeState)) (first : ℕ) (origin : Origin) (before after : PartState) : Type 0 where
   pub grown : after.grown ≡ before.grown ++ map (new_row origin) children
   pub fills : after.fills ≡ before.fills ++ record { place = place; fate = Expanded (length children) first; origin = origin } ∷ []
   pub live : after.live ≡ before.live
   pub made : after.made ≡ before.made ++ record { place = place; known = base } ∷ []
-  pub left : after.left ≡ placed_from first children ++ before.left
 
 -- a node was closed for this reason
 pub record ClosesAs (records : Records) (place : ℕ) (close : Close) (origin : Origin) (before after : PartState) : Type 0 where
@@ -37,13 +39,14 @@ pub record ClosesAs (records : Records) (place : ℕ) (close : Close) (origin : 
   pub made : after.made ≡ before.made
   pub left : after.left ≡ before.left
 
--- how far a worker has come: what it holds, what its pass has seen and done, and its part
+-- how far a worker has come: what it holds, what its pass has seen and done, its part and the source of its nodes
 pub record Stage : Type 0 where
   pub at : Progress
   pub part : PartState
+  pub source : SourceState
 
 abbrev pub stage_of : WorkerState → PassState → Part → Stage
-stage_of worker pass part = record { at = record { worker = worker; pass = pass.view }; part = part_state part }
+stage_of worker pass part = record { at = record { worker = worker; pass = pass.view }; part = part_state part; source = part.source }
 
 abbrev pub beginning : Table → Records → ℕ → List WaitingNode → Terms → Beginning
 beginning table records worker dealt terms = record { table = table; records = records; dealt = dealt; terms = terms; first_worker = worker; last_worker = worker }
@@ -52,12 +55,12 @@ beginning table records worker dealt terms = record { table = table; records = r
 abbrev pub next_stage : WaitingNode → Stage → Stage
 next_stage next s = record s { part = record s.part { left = next ∷ s.part.left } }
 
--- what is a share goes on to be one: whatever nodes the worker handled, and in whatever round of this number
+-- what is a share goes on to be one: whatever nodes the worker was dealt, and in whatever round of this number
 abbrev pub KeepsShare : Project → Records → Origin → Stage → Stage → Type 0
 KeepsShare P records origin before after =
-    (table : Table) (dealt : List WaitingNode) (terms : Terms) (h : Handled) → terms.number ≡ origin.round → IfSome terms.best (λ end. end ≤ 1290000) →
-    IsShare P (beginning table records origin.worker dealt terms) h before.at before.part →
-    IsShare P (beginning table records origin.worker dealt terms) h after.at after.part
+    (table : Table) (all : List WaitingNode) (terms : Terms) (dealt : List Waiting) → terms.number ≡ origin.round → IfSome terms.best (λ end. end ≤ 1290000) →
+    IsShare P (beginning table records origin.worker all terms) (handled_by dealt before.source) before.at before.part →
+    IsShare P (beginning table records origin.worker all terms) (handled_by dealt after.source) after.at after.part
 
 -- The counts of a part: at most 512 new rows for each fill, a record for each front that was expanded and each ticket that was
 -- won, and the number of a fill for each live citation; what was offered ends by 1,290,000

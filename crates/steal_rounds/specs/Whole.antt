@@ -9,6 +9,10 @@ use Rattle.search_table.specs.Views.{joint_view}
 use Rattle.once_cell.specs.declared.race.note.Note.{Note}
 use Rattle.precedence_tree.specs.declared.base.Base.{Base}
 use Rattle.tree_worker.specs.declared.live.LiveNote.{LiveNote}
+use Rattle.node_sources.specs.declared.settling.Settled.{Settled}
+use Rattle.node_sources.specs.Source.{SourceState}
+use Rattle.node_sources.specs.Settled.{IsSettled}
+use Rattle.search_rounds.specs.declared.round.WaitingNode.{WaitingNode}
 use Rattle.round_shares.specs.Part.{PartState}
 use Rattle.round_shares.specs.Crew.{Worked, starts_from, real_fill, real_record, real_waiting, crew_part}
 use Rattle.steal_rounds.specs.declared.member.Member.{Member}
@@ -52,15 +56,18 @@ abbrev pub worked : Member → Worked
 worked m = record { at = progress_of m; part = part_state m.part; handled = record { got = []; given = [] } }
 
 -- the lists of two parts: those of the second come behind, with their places in the table, where the first new row of each worker
--- has these places
+-- has these places; what the second left is added when all have ended
 abbrev pub joined_part : List ℕ → PartState → PartState → PartState
 joined_part starts s t = record {
   grown = s.grown ++ t.grown;
   fills = s.fills ++ map (real_fill starts) t.fills;
   live = s.live ++ map (λ i. length s.fills + i) t.live;
   made = s.made ++ map (real_record starts) t.made;
-  left = s.left ++ map (real_waiting starts) t.left;
+  left = s.left;
 }
+
+abbrev pub source_of : Member → SourceState
+source_of m = m.part.source
 
 abbrev pub all_cited : List Member → List LiveNote
 all_cited [] = []
@@ -95,9 +102,22 @@ pub record AddsMember (P : Project) (starts : List ℕ) (m : Member) (before aft
   pub is_by : IsPublishedBy (length before.made.items) m by
   pub plan : after.plan ≡ better_plan P before.plan m.worker.plan
 
--- it is what these workers did, on a table of so many rows
+-- the nodes of all lists, list by list
+abbrev pub all_lists : List (List WaitingNode) → List WaitingNode
+all_lists [] = []
+all_lists (list ∷ lists) = list ++ all_lists lists
+
+-- the sources were settled, and what they have comes behind what was there before, with its places in the table
+pub record AddsLeft (starts : List ℕ) (ss : List SourceState) (before after : List WaitingNode) : Type 0 where
+  pub settled : Settled
+  pub is : IsSettled ss settled
+  pub left : after ≡ before ++ map (real_waiting starts) (all_lists settled.lists.items ++ settled.rest)
+
+-- it is what these workers did, on a table of so many rows, and what is left
 pub record IsWholeOf (P : Project) (table : ℕ) (ms : List Member) (whole : Whole) : Type 0 where
-  pub lists : whole_state whole ≡ crew_part (starts_from table (map worked ms)) (map worked ms) []
+  pub settled : Settled
+  pub is_settled : IsSettled (map source_of ms) settled
+  pub lists : whole_state whole ≡ crew_part (starts_from table (map worked ms)) (map worked ms) settled.rest
   pub cited : whole.cited.items ≡ all_cited ms
   pub published : ArePublishedBy 0 ms whole.published.items
   pub plan : whole.plan ≡ best_plan P None ms

@@ -121,7 +121,8 @@ pub fn round<R: Threads + Sync, G: Gate + Sync>(
     let (words, mut first) = RoundTable::new(alloc, start, terms.quota as u64, workers)?;
     let rows = Rows::new(alloc, workers, terms.quota)?;
     let dealt = deal(alloc, frontier, workers as usize)?;
-    let mut members = seat(alloc, project, &words, &mut first, dealt)?;
+    let sources = node_sources::seat(alloc, project, dealt)?;
+    let mut members = seat(alloc, project, &words, &mut first, sources)?;
     run_members(
         runtime,
         alloc,

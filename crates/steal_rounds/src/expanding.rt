@@ -1,16 +1,23 @@
 // A node that was expanded joins a part: the rows of its children, its placed children, its record and its fill.
-ghost use Rattle.std.specs.Prelude.{◌≡◌, ◌+◌, ◌≤◌, ◌<◌, ◌++◌, length, map, OnOk};
+ghost use Rattle.std.specs.Prelude.{◌≡◌, ◌+◌, ◌≤◌, ◌<◌, ◌++◌, length, map, All, OnOk};
+ghost use Rattle.rcpsp_model.specs.Project.{Project as ProjectValue};
+ghost use Rattle.precedence_tree.specs.Children.{StandsWherePlaced};
+ghost use Rattle.round_shares.specs.Share.{first_place};
+ghost use Rattle.node_sources.specs.Places.{IsOwnPlace};
+ghost use Rattle.node_sources.specs.Source.{IsSourceOf};
+ghost use Rattle.node_sources.specs.Seats.{Stays};
 ghost use Rattle.steal_rounds.specs.Children.{last_placed, row_of_child, new_row, waiting_child, placed_from};
 ghost use Rattle.steal_rounds.specs.Lists.{part_state};
+ghost use Rattle.steal_rounds.specs.Sources.{Gains};
 ghost use Rattle.steal_rounds.specs.Turns.{ExpandsAs};
 
 use crate::part::Part;
-use crate::source::NodeSource;
 use cutset_store::CutRecord;
+use node_sources::NodeSource;
 use precedence_tree::{Child, Children, Entry, Node};
 use sched_base::NoMemory;
 use search_log::{Fill, Origin, Row, RowFate};
-use search_rounds::{NewRow, PlacedRecord, WaitingNode};
+use search_rounds::{NewRow, PlacedRecord};
 
 // The entry that was placed last; zeros at the root.
 fn last_entry(node: &Node) -> Entry
@@ -67,23 +74,30 @@ fn push_rows(
     Ok(())
 }
 
-// Puts a child before the nodes that wait, if it is placed.
+// Puts a child to the nodes that wait, if it is placed.
 fn put_child(source: &mut NodeSource, place: u32, child: Child<Node>) -> Result<(), NoMemory>
-    ensures { OnOk result (source.new ≡ waiting_child place child ++ source.old) }
+    requires child { (P : ProjectValue) × IsSourceOf P source.old × StandsWherePlaced P child }
+    requires place { IsOwnPlace source.old.number place }
+    ensures stays { Stays source.old source.new }
+    ensures gains { OnOk result (Gains (waiting_child place child) source.old source.new) }
 {
     match child {
         Child::Placed(node) => {
-            source.put(WaitingNode { place, node })?;
+            source.put(place, node)?;
             Ok(())
         }
         Child::Shut { .. } => Ok(()),
     }
 }
 
-// Puts the placed children before the nodes that wait, in order. Their rows begin at a place.
+// Puts the placed children to the nodes that wait, so that the first of them is the next one. Their rows begin at a place.
 fn put_children(source: &mut NodeSource, first: u32, children: Children) -> Result<(), NoMemory>
-    requires { first + length children ≤ 4294967295 }
-    ensures { OnOk result (source.new ≡ placed_from first children ++ source.old) }
+    requires children { (P : ProjectValue) × IsSourceOf P source.old × All (StandsWherePlaced P) children }
+    requires low { first_place source.old.number ≤ first }
+    requires high { first + length children ≤ first_place (source.old.number + 1) }
+    requires room { first + length children ≤ 4294967295 }
+    ensures stays { Stays source.old source.new }
+    ensures gains { OnOk result (Gains (placed_from first children) source.old source.new) }
 {
     let mut rest = children.into_vec();
     'rest: while let Some(child) = rest.pop() {
@@ -103,8 +117,13 @@ pub(crate) fn expanded(
     origin: Origin,
 ) -> Result<(), NoMemory>
     requires few { length children ≤ 512 }
+    requires children { (P : ProjectValue) × IsSourceOf P part.old.source × All (StandsWherePlaced P) children }
+    requires low { first_place part.old.source.number ≤ first }
+    requires high { first + length children ≤ first_place (part.old.source.number + 1) }
     requires room { first + length children ≤ 4294967295 }
-    ensures { OnOk result (ExpandsAs place known children first origin (part_state part.old) (part_state part.new)) }
+    ensures stays { Stays part.old.source part.new.source }
+    ensures gains { OnOk result (Gains (placed_from first children) part.old.source part.new.source) }
+    ensures expands { OnOk result (ExpandsAs place known children first origin (part_state part.old) (part_state part.new)) }
 {
     let count = children.len() as u16;
     push_rows(&mut part.grown, children.as_slice(), origin)?;

@@ -1,16 +1,17 @@
 // What the workers of a round did, put together.
-ghost use Rattle.std.specs.Prelude.{◌≡◌, ◌+◌, ◌++◌, nat_lt, map, IfOk, OnOk, IfSome};
+ghost use Rattle.std.specs.Prelude.{◌≡◌, ◌+◌, [], ◌∷◌, ◌++◌, nat_lt, map, IfOk, OnOk, IfSome};
 ghost use Rattle.rcpsp_model.specs.Schedule.{end_of, entries};
 ghost use Rattle.search_log.specs.Weights.{Each};
 ghost use Rattle.search_table.specs.Views.{joint_view};
+ghost use Rattle.node_sources.specs.Seats.{AreSeated};
 ghost use Rattle.round_shares.specs.Crew.{starts_from, real_place, real_fate, real_fill, real_record, real_waiting};
 ghost use Rattle.steal_rounds.specs.Lists.{part_state};
-ghost use Rattle.steal_rounds.specs.Whole.{worked, by_worker, whole_state, better_plan, IsShort, IsOfTable, IsSound, joined_part, AddsMember, joined_views, IsWholeOf};
+ghost use Rattle.steal_rounds.specs.Whole.{worked, by_worker, whole_state, better_plan, IsShort, IsOfTable, IsSound, joined_part, AddsMember, joined_views, source_of, all_lists, AddsLeft, IsWholeOf};
 
 use crate::member::Member;
 use crate::part::{Part, ROOM};
-use crate::source::NodeSource;
 use cutset_store::CutRecord;
+use node_sources::{NodeSource, Settled, settle};
 use project_net::{Project, Schedule};
 use sched_base::{List, NoMemory};
 use search_log::{Fill, RowFate};
@@ -168,14 +169,13 @@ fn add_made(
 }
 
 fn add_left(
-    alloc: Global,
     left: &mut Vec<WaitingNode>,
     starts: &[u32],
-    source: NodeSource,
+    more: List<WaitingNode>,
 ) -> Result<(), NoMemory>
-    ensures { OnOk result (left.new.items ≡ left.old.items ++ map (real_waiting starts.now) source) }
+    ensures { OnOk result (left.new.items ≡ left.old.items ++ map (real_waiting starts.now) more) }
 {
-    let mut more = VecDeque::from(source.into_left(alloc)?.into_vec());
+    let mut more = VecDeque::from(more.into_vec());
     while let Some(WaitingNode { place, node }) = more.pop_front() {
         let place = table_place(starts, place)?;
         left.push(WaitingNode { place, node })?;
@@ -183,12 +183,47 @@ fn add_left(
     Ok(())
 }
 
-// Joins a part.
-fn add_part(alloc: Global, whole: &mut Whole, starts: &[u32], part: Part) -> Result<(), NoMemory>
+fn add_lists(
+    left: &mut Vec<WaitingNode>,
+    starts: &[u32],
+    lists: Vec<List<WaitingNode>>,
+) -> Result<(), NoMemory>
+    ensures { OnOk result (left.new.items ≡ left.old.items ++ map (real_waiting starts.now) (all_lists lists.items)) }
+{
+    let mut lists = VecDeque::from(lists);
+    while let Some(list) = lists.pop_front() {
+        add_left(left, starts, list)?;
+    }
+    Ok(())
+}
+
+// Adds what is left: the nodes that each worker has by itself, and those that nobody took out of a deque.
+fn add_all_left(
+    alloc: Global,
+    left: &mut Vec<WaitingNode>,
+    starts: &[u32],
+    sources: Vec<NodeSource>,
+) -> Result<(), NoMemory>
+    requires { AreSeated sources.items }
+    ensures { OnOk result (AddsLeft starts.now sources.items left.old.items left.new.items) }
+{
+    let Settled { lists, rest } = settle(alloc, sources)?;
+    add_lists(left, starts, lists)?;
+    add_left(left, starts, rest)
+}
+
+// Joins a part, apart from what is left, and keeps its source.
+fn add_part(
+    whole: &mut Whole,
+    sources: &mut Vec<NodeSource>,
+    starts: &[u32],
+    part: Part,
+) -> Result<(), NoMemory>
     ensures lists { OnOk result (whole_state whole.new ≡ joined_part starts.now (whole_state whole.old) (part_state part)) }
     ensures cited { whole.new.cited ≡ whole.old.cited }
     ensures published { whole.new.published ≡ whole.old.published }
     ensures plan { whole.new.plan ≡ whole.old.plan }
+    ensures source { OnOk result (sources.new.items ≡ sources.old.items ++ part.source ∷ []) }
 {
     let Part {
         grown,
@@ -201,7 +236,7 @@ fn add_part(alloc: Global, whole: &mut Whole, starts: &[u32], part: Part) -> Res
     add_fills(&mut whole.fills, starts, fills.as_slice())?;
     add_live(&mut whole.live, before, live.as_slice())?;
     add_made(&mut whole.made, starts, made)?;
-    add_left(alloc, &mut whole.left, starts, source)?;
+    sources.push(source)?;
     add_rows(&mut whole.grown, grown.as_slice())
 }
 
@@ -250,7 +285,7 @@ fn shown_by(
     Ok(shown)
 }
 
-// Joins what a worker did, and its pass.
+// Joins what a worker did, and its pass, and keeps its source.
 fn add_member(
     alloc: Global,
     project: &Project,
@@ -258,6 +293,7 @@ fn add_member(
     words: &RoundTable,
     first: &mut Pass,
     whole: &mut Whole,
+    sources: &mut Vec<NodeSource>,
     member: Member,
 ) -> Result<(), NoMemory>
     requires table { first.old.table ≡ words.now }
@@ -268,6 +304,7 @@ fn add_member(
     ensures view { first.new.view ≡ joint_view first.old.view member.pass.view }
     ensures sound { OnOk result (IsSound member) }
     ensures joined { OnOk result (AddsMember project.now starts.now member whole.old whole.new) }
+    ensures source { OnOk result (sources.new.items ≡ sources.old.items ++ source_of member ∷ []) }
 {
     let Member {
         worker,
@@ -281,7 +318,7 @@ fn add_member(
         return Err(NoMemory);
     }
     let made = whole.made.as_slice().len();
-    add_part(alloc, whole, starts, part)?;
+    add_part(whole, sources, starts, part)?;
     let parts = worker.into_parts();
     let shown = shown_by(alloc, number, parts.own)?;
     whole.published.push(Published { first: made, shown })?;
@@ -291,7 +328,7 @@ fn add_member(
     Ok(())
 }
 
-/// Puts together what workers did on a table of so many rows, and joins their passes into the first one.
+/// Puts together what workers did on a table of so many rows and what is left, and joins their passes into the first one.
 pub(crate) fn gather(
     alloc: Global,
     project: &Project,
@@ -303,6 +340,7 @@ pub(crate) fn gather(
     requires table { first.old.table ≡ words.now }
     requires passes { Each (IsOfTable words.now) members.items }
     requires plans { Each (λ m. IsSound m → IfSome m.worker.plan (IsShort project.now)) members.items }
+    requires sources { AreSeated (map source_of members.items) }
     ensures table { first.new.table ≡ first.old.table }
     ensures view { IfOk result (λ whole. first.new.view ≡ joined_views first.old.view members.items) }
     ensures sound { IfOk result (λ whole. Each IsSound members.items) }
@@ -319,6 +357,7 @@ pub(crate) fn gather(
         published: Vec::new(alloc),
         plan: None,
     };
+    let mut sources = Vec::new(alloc);
     let mut members = VecDeque::from(members);
     while let Some(member) = members.pop_front() {
         add_member(
@@ -328,8 +367,10 @@ pub(crate) fn gather(
             words,
             first,
             &mut whole,
+            &mut sources,
             member,
         )?;
     }
+    add_all_left(alloc, &mut whole.left, starts.as_slice(), sources)?;
     Ok(whole)
 }

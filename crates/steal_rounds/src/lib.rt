@@ -1,5 +1,5 @@
-//! Workers that run the rounds of a search side by side: each visits nodes in turn, first its own children and then what it was
-//! dealt; what they did is put together and joins the table of the search. Rounds go on until the search has ended.
+//! Workers that run the rounds of a search side by side: each visits nodes in turn, first its own children, then what it was dealt,
+//! and then what it takes from others; what they did is put together and joins the table of the search. Rounds go on until the search has ended.
 #![tactic(auto)]
 
 mod citing;
@@ -11,7 +11,6 @@ mod member;
 mod part;
 mod preorder;
 mod searching;
-mod source;
 mod work;
 
 pub use crew::round;

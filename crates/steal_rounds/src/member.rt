@@ -8,12 +8,12 @@ ghost use Rattle.steal_rounds.specs.Lists.{part_state, new_part};
 ghost use Rattle.steal_rounds.specs.Members.{IsReady, Went, AreSeated, with_workers};
 
 use crate::part::Part;
-use crate::source::NodeSource;
 use crate::work::work;
 use cutset_store::CutRecord;
+use node_sources::NodeSource;
 use project_net::Project;
-use sched_base::{Gate, List, NoMemory};
-use search_rounds::{Records, WaitingNode};
+use sched_base::{Gate, NoMemory};
+use search_rounds::Records;
 use search_table::{Pass, RoundTable};
 use shared_rows::Rows;
 use std::alloc::Global;
@@ -31,17 +31,18 @@ pub(crate) struct Member {
     pub failed: bool,
 }
 
-// A worker that has done nothing, with the nodes that it was dealt.
+// A worker that has done nothing, with the source of its nodes.
 fn new_member(
     alloc: Global,
     project: &Project,
     number: u32,
     pass: Pass,
-    dealt: Vec<WaitingNode>,
+    source: NodeSource,
 ) -> Member
     ensures pass { result.pass ≡ pass }
     ensures worker { result.worker ≡ new_worker number }
-    ensures part { part_state result.part ≡ new_part dealt.items }
+    ensures part { part_state result.part ≡ new_part source.list }
+    ensures source { result.part.source ≡ source }
 {
     Member {
         worker: TreeWorker::new(alloc, project, number),
@@ -51,35 +52,35 @@ fn new_member(
             fills: Vec::new(alloc),
             live: Vec::new(alloc),
             made: Vec::new(alloc),
-            source: NodeSource::of_dealt(alloc, List::from_vec(dealt)),
+            source,
         },
         failed: false,
     }
 }
 
-/// A worker for each list of nodes, with the numbers from 1 on, each with a pass of its own.
+/// A worker for each source of nodes, with the numbers from 1 on, each with a pass of its own.
 pub(crate) fn seat(
     alloc: Global,
     project: &Project,
     words: &RoundTable,
     first: &mut Pass,
-    dealt: Vec<Vec<WaitingNode>>,
+    sources: Vec<NodeSource>,
 ) -> Result<Vec<Member>, NoMemory>
     requires table { first.old.table ≡ words.now }
     requires number { first.old.view.number ≡ 0 }
     requires none { first.old.view.split_off ≡ [] }
-    requires room { vec_len dealt ≤ first.old.view.terms.workers }
-    requires few { vec_len dealt ≤ 32 }
+    requires room { vec_len sources ≤ first.old.view.terms.workers }
+    requires few { vec_len sources ≤ 32 }
     ensures table { first.new.table ≡ first.old.table }
-    ensures first { IfOk result (λ members. first.new.view ≡ with_workers (vec_len dealt) first.old.view) }
-    ensures members { IfOk result (λ members. AreSeated words.now first.old.view 1 dealt.items members.items) }
+    ensures first { IfOk result (λ members. first.new.view ≡ with_workers (vec_len sources) first.old.view) }
+    ensures members { IfOk result (λ members. AreSeated words.now first.old.view 1 sources.items members.items) }
 {
-    let mut members = Vec::with_capacity(alloc, dealt.len())?;
-    let mut dealt = VecDeque::from(dealt);
-    while let Some(nodes) = dealt.pop_front() {
+    let mut members = Vec::with_capacity(alloc, sources.len())?;
+    let mut sources = VecDeque::from(sources);
+    while let Some(source) = sources.pop_front() {
         let number = members.len() as u32 + 1;
         let pass = words.split(first, number);
-        members.push(new_member(alloc, project, number, pass, nodes))?;
+        members.push(new_member(alloc, project, number, pass, source))?;
     }
     Ok(members)
 }

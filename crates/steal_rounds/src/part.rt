@@ -1,4 +1,4 @@
-use crate::source::NodeSource;
+use node_sources::NodeSource;
 use search_log::Fill;
 use search_rounds::{NewRow, PlacedRecord};
 
@@ -18,6 +18,6 @@ pub(crate) struct Part {
     pub live: Vec<u32>,
     /// The fronts that it expanded, in order.
     pub made: Vec<PlacedRecord>,
-    /// The nodes that wait for it.
+    /// Where it takes its next node.
     pub source: NodeSource,
 }

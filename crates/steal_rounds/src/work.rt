@@ -4,6 +4,8 @@ ghost use Rattle.precedence_tree.specs.Base.{IsBaseOf};
 ghost use Rattle.precedence_tree.specs.Node.{StandsFor};
 ghost use Rattle.tree_worker.specs.Worker.{IsAtWork};
 ghost use Rattle.tree_worker.specs.Visits.{StaysOf};
+ghost use Rattle.node_sources.specs.Source.{IsSourceOf};
+ghost use Rattle.node_sources.specs.Seats.{Stays};
 ghost use Rattle.steal_rounds.specs.Fates.{IsCitedWithin, fate_in, live_numbers, places_of};
 ghost use Rattle.steal_rounds.specs.Lists.{part_state};
 ghost use Rattle.steal_rounds.specs.Turns.{stage_of, next_stage, ClosesAs, KeepsShare, Counts, IsTurn};
@@ -64,7 +66,8 @@ fn closed(
 ) -> Result<(), NoMemory>
     requires cited { IsCitedWithin (length records.now.places) (length part.old.made.items) close }
     requires few { length part.old.fills.items ≤ 65536 }
-    ensures { OnOk result (ClosesAs records.now place close origin (part_state part.old) (part_state part.new)) }
+    ensures source { part.new.source ≡ part.old.source }
+    ensures closes { OnOk result (ClosesAs records.now place close origin (part_state part.old) (part_state part.new)) }
 {
     let fate = fate_of(close, records, part.made.as_slice());
     let number = part.fills.as_slice().len() as u32;
@@ -103,10 +106,11 @@ fn take_turn<C: Cells<CutRecord>, G: Gate>(
     requires turn { origin.turn ≡ length part.old.fills.items + 1 }
     requires few { origin.turn ≤ 65536 }
     requires counts { Counts (stage_of worker.old pass.old part.old) }
-    requires others { All (λ w. StandsFor project.now w.node) part.old.source }
+    requires source { IsSourceOf project.now part.old.source }
+    requires own { part.old.source.number ≡ origin.worker }
     ensures table { pass.new.table ≡ pass.old.table }
     ensures stays { StaysOf pass.old.view pass.new.view }
-    ensures nodes { OnOk result (All (λ w. StandsFor project.now w.node) part.new.source) }
+    ensures source { Stays part.old.source part.new.source }
     ensures work { OnOk result (IsAtWork project.now rows.now (record { worker = worker.new; pass = pass.new.view })) }
     ensures counts { OnOk result (Counts (stage_of worker.new pass.new part.new)) }
     ensures turn { IfOk result (λ on. IsTurn on (stage_of worker.old pass.old part.old) (stage_of worker.new pass.new part.new)) }
@@ -135,7 +139,7 @@ fn take_turn<C: Cells<CutRecord>, G: Gate>(
             Ok(true)
         }
         Visited::Back(node) => {
-            part.source.put(WaitingNode { place, node })?;
+            part.source.put_back(WaitingNode { place, node })?;
             Ok(false)
         }
     }
@@ -159,17 +163,18 @@ pub(crate) fn work<G: Gate>(
     requires unrefused { pass.old.view.refused ≡ 0 }
     requires records { All (IsBaseOf project.now) records.now.index }
     requires places { length records.now.places ≡ length records.now.index }
-    requires nodes { All (λ w. StandsFor project.now w.node) part.old.source }
+    requires source { IsSourceOf project.now part.old.source }
+    requires own { part.old.source.number ≡ pass.old.view.number }
     requires number { pass.old.view.number ≤ 32 }
     requires fresh { part.old.fills.items ≡ [] }
     requires counts { Counts (stage_of worker.old pass.old part.old) }
     ensures table { pass.new.table ≡ pass.old.table }
     ensures stays { StaysOf pass.old.view pass.new.view }
-    ensures nodes { OnOk result (All (λ w. StandsFor project.now w.node) part.new.source) }
+    ensures source { Stays part.old.source part.new.source }
     ensures work { OnOk result (IsAtWork project.now rows.now (record { worker = worker.new; pass = pass.new.view })) }
     ensures counts { OnOk result (Counts (stage_of worker.new pass.new part.new)) }
     ensures few { OnOk result (length part.new.fills.items ≤ 65536) }
-    ensures moves { OnOk result (0 < length part.old.source → 0 < length part.new.fills.items + pass.new.view.refused) }
+    ensures moves { OnOk result (0 < length part.old.source.list → 0 < length part.new.fills.items + pass.new.view.refused) }
     ensures keeps { OnOk result (KeepsShare project.now records.now (record { round = round; worker = pass.old.view.number; turn = 0 }) (stage_of worker.old pass.old part.old) (stage_of worker.new pass.new part.new)) }
 {
     let mut cells = OnceCells::new();

@@ -9,16 +9,33 @@ use Rattle.steal_rounds.specs.Settled.{EndsAs}
 use Rattle.round_shares.proofs.EndNumbers.{end-small}
 use Rattle.steal_rounds.proofs.RoundWords.{if_ok-weaker}
 use Rattle.steal_rounds.proofs.CrewRounds.{list-many}
-use Rattle.steal_rounds.proofs.CrewRounds.{Ran, Gathered, Closes, begin-ready, ran-passes, ran-plans, gathered-view, gathered-citable, gathered-round, closed-best}
+use Rattle.steal_rounds.proofs.CrewRounds.{vec-many, dealt-stand, Ran, Gathered, Closes, begin-ready, ran-passes, ran-sources, ran-plans, gathered-view, gathered-citable, gathered-round, closed-best}
 use Rattle.steal_rounds.proofs.crew.round.Goals as goal
+
+pub seat-requires-clause-nodes : goal.seat-requires-clause-nodes
+seat-requires-clause-nodes g c = dealt-stand c.args.project.now c.args.frontier c.in_ok-dealt.dealt.items c.in_ok-dealt.ensures.dealt c.requires.nodes
+
+pub seat-requires-2-clause-room : goal.seat-requires-2-clause-room
+seat-requires-2-clause-room g c =
+    let many = vec-many c.args.project.now c.in_ok-dealt.dealt c.in_ok-sources.sources c.in_ok-sources.ensures in
+    let dealt = c.in_ok-dealt.ensures.len in
+    let terms = ap (λ (v : PassView). v.terms.workers) c.in_ok-words.ensures.view in
+    omega arith
+
+pub seat-requires-2-clause-few : goal.seat-requires-2-clause-few
+seat-requires-2-clause-few g c =
+    let many = vec-many c.args.project.now c.in_ok-dealt.dealt c.in_ok-sources.sources c.in_ok-sources.ensures in
+    let dealt = c.in_ok-dealt.ensures.len in
+    let few = c.requires.few_workers in
+    omega arith
 
 pub run_members-requires-clause-ready : goal.run_members-requires-clause-ready
 run_members-requires-clause-ready g c κs within =
     let round : RoundTerms = record { start = c.number_of-start.result; quota = c.args.terms.quota; workers = c.args.workers } in
-    begin-ready c.args.project.now c.args.terms c.args.workers c.in_ok-rows.rows c.in_ok-words.words round c.args.frontier c.in_ok-dealt.dealt.items c.in_ok-members.members.items
+    begin-ready c.args.project.now c.args.terms c.args.workers c.in_ok-rows.rows c.in_ok-words.words round c.in_ok-dealt.dealt.items c.in_ok-sources.sources.items c.in_ok-members.members.items
     (record { start = c.number_of-start.ensures; quota = refl; of_words = refl; of_rows = c.in_ok-rows.ensures.workers; cells = c.in_ok-rows.ensures.cells }) c.requires.few_workers
-    (list-many c.in_ok-dealt.dealt ∙ c.in_ok-dealt.ensures.len) c.in_ok-dealt.ensures.dealt c.requires.nodes
-    (subst (λ (v : PassView). AreSeated c.in_ok-words.words v 1 c.in_ok-dealt.dealt.items c.in_ok-members.members.items) c.in_ok-words.ensures.view c.in_ok-members.ensures.members)
+    (list-many c.in_ok-dealt.dealt ∙ c.in_ok-dealt.ensures.len) c.in_ok-sources.ensures
+    (subst (λ (v : PassView). AreSeated c.in_ok-words.words v 1 c.in_ok-sources.sources.items c.in_ok-members.members.items) c.in_ok-words.ensures.view c.in_ok-members.ensures.members)
 
 pub gather-requires-clause-passes : goal.gather-requires-clause-passes
 gather-requires-clause-passes g c =
@@ -31,7 +48,9 @@ gather-requires-clause-passes g c =
       quota = c.requires.quota;
       many = list-many c.in_ok-dealt.dealt ∙ c.in_ok-dealt.ensures.len;
       dealt = c.in_ok-dealt.ensures.dealt;
-      seated = subst (λ (v : PassView). AreSeated c.in_ok-words.words v 1 c.in_ok-dealt.dealt.items c.in_ok-members.members.items) c.in_ok-words.ensures.view c.in_ok-members.ensures.members;
+      sources = c.in_ok-sources.sources.items;
+      new = c.in_ok-sources.ensures;
+      seated = subst (λ (v : PassView). AreSeated c.in_ok-words.words v 1 c.in_ok-sources.sources.items c.in_ok-members.members.items) c.in_ok-words.ensures.view c.in_ok-members.ensures.members;
       went = c.run_members.ensures;
     } in
     ran-passes _ _ _ _ _ _ _ _ _ _ _ _ ran
@@ -47,10 +66,30 @@ gather-requires-clause-plans g c =
       quota = c.requires.quota;
       many = list-many c.in_ok-dealt.dealt ∙ c.in_ok-dealt.ensures.len;
       dealt = c.in_ok-dealt.ensures.dealt;
-      seated = subst (λ (v : PassView). AreSeated c.in_ok-words.words v 1 c.in_ok-dealt.dealt.items c.in_ok-members.members.items) c.in_ok-words.ensures.view c.in_ok-members.ensures.members;
+      sources = c.in_ok-sources.sources.items;
+      new = c.in_ok-sources.ensures;
+      seated = subst (λ (v : PassView). AreSeated c.in_ok-words.words v 1 c.in_ok-sources.sources.items c.in_ok-members.members.items) c.in_ok-words.ensures.view c.in_ok-members.ensures.members;
       went = c.run_members.ensures;
     } in
     ran-plans _ _ _ _ _ _ _ _ _ _ _ _ ran
+
+pub gather-requires-clause-sources : goal.gather-requires-clause-sources
+gather-requires-clause-sources g c =
+    let round : RoundTerms = record { start = c.number_of-start.result; quota = c.args.terms.quota; workers = c.args.workers } in
+    let ran : Ran c.args.project.now c.args.table.now c.args.records.now c.args.terms c.args.workers c.in_ok-rows.rows c.in_ok-words.words round c.args.frontier c.in_ok-dealt.dealt.items c.in_ok-members.members.items c.run_members.new.members.items = record {
+      begins = record { start = c.number_of-start.ensures; quota = refl; of_words = refl; of_rows = c.in_ok-rows.ensures.workers; cells = c.in_ok-rows.ensures.cells };
+      soon = c.requires.soon;
+      room = c.requires.room;
+      some = c.requires.some;
+      quota = c.requires.quota;
+      many = list-many c.in_ok-dealt.dealt ∙ c.in_ok-dealt.ensures.len;
+      dealt = c.in_ok-dealt.ensures.dealt;
+      sources = c.in_ok-sources.sources.items;
+      new = c.in_ok-sources.ensures;
+      seated = subst (λ (v : PassView). AreSeated c.in_ok-words.words v 1 c.in_ok-sources.sources.items c.in_ok-members.members.items) c.in_ok-words.ensures.view c.in_ok-members.ensures.members;
+      went = c.run_members.ensures;
+    } in
+    ran-sources _ _ _ _ _ _ _ _ _ _ _ _ ran
 
 pub close_with-end-requires-clause-first : goal.close_with-end-requires-clause-first
 close_with-end-requires-clause-first g c =
@@ -63,11 +102,14 @@ close_with-end-requires-clause-first g c =
       quota = c.requires.quota;
       many = list-many c.in_ok-dealt.dealt ∙ c.in_ok-dealt.ensures.len;
       dealt = c.in_ok-dealt.ensures.dealt;
-      seated = subst (λ (v : PassView). AreSeated c.in_ok-words.words v 1 c.in_ok-dealt.dealt.items c.in_ok-members.members.items) c.in_ok-words.ensures.view c.in_ok-members.ensures.members;
+      sources = c.in_ok-sources.sources.items;
+      new = c.in_ok-sources.ensures;
+      seated = subst (λ (v : PassView). AreSeated c.in_ok-words.words v 1 c.in_ok-sources.sources.items c.in_ok-members.members.items) c.in_ok-words.ensures.view c.in_ok-members.ensures.members;
       went = c.run_members.ensures;
     } in
     let joined : c.gather.new.first.view ≡ joined_views (with_workers c.args.workers (first_view round)) c.run_members.new.members.items = c.in_ok-whole.ensures.view ∙ ap (λ (v : PassView). joined_views v c.run_members.new.members.items)
-    (c.in_ok-members.ensures.first ∙ (ap (λ (v : PassView). with_workers (vec_len c.in_ok-dealt.dealt) v) c.in_ok-words.ensures.view ∙ ap (λ (n : ℕ). with_workers n (first_view round)) c.in_ok-dealt.ensures.len)) in
+    (c.in_ok-members.ensures.first ∙ (ap (λ (v : PassView). with_workers (vec_len c.in_ok-sources.sources) v) c.in_ok-words.ensures.view
+    ∙ ap (λ (n : ℕ). with_workers n (first_view round)) (vec-many c.args.project.now c.in_ok-dealt.dealt c.in_ok-sources.sources c.in_ok-sources.ensures ∙ c.in_ok-dealt.ensures.len))) in
     let gathered : Gathered c.args.project.now c.args.table.now c.args.records.now c.args.terms c.args.workers c.in_ok-rows.rows c.in_ok-words.words round c.args.frontier c.in_ok-dealt.dealt.items c.in_ok-members.members.items c.run_members.new.members.items
     c.in_ok-whole.whole c.gather.new.first.view = record { ran = ran; sound = c.in_ok-whole.ensures.sound; whole_is = subst (λ (n : ℕ). IsWholeOf c.args.project.now n c.run_members.new.members.items c.in_ok-whole.whole) c.len.ensures c.in_ok-whole.ensures.whole; joined = joined } in
     (gathered-view _ _ _ _ _ _ _ _ _ _ _ _ _ _ gathered).number
@@ -83,11 +125,14 @@ close_with-end-requires-clause-all g c =
       quota = c.requires.quota;
       many = list-many c.in_ok-dealt.dealt ∙ c.in_ok-dealt.ensures.len;
       dealt = c.in_ok-dealt.ensures.dealt;
-      seated = subst (λ (v : PassView). AreSeated c.in_ok-words.words v 1 c.in_ok-dealt.dealt.items c.in_ok-members.members.items) c.in_ok-words.ensures.view c.in_ok-members.ensures.members;
+      sources = c.in_ok-sources.sources.items;
+      new = c.in_ok-sources.ensures;
+      seated = subst (λ (v : PassView). AreSeated c.in_ok-words.words v 1 c.in_ok-sources.sources.items c.in_ok-members.members.items) c.in_ok-words.ensures.view c.in_ok-members.ensures.members;
       went = c.run_members.ensures;
     } in
     let joined : c.gather.new.first.view ≡ joined_views (with_workers c.args.workers (first_view round)) c.run_members.new.members.items = c.in_ok-whole.ensures.view ∙ ap (λ (v : PassView). joined_views v c.run_members.new.members.items)
-    (c.in_ok-members.ensures.first ∙ (ap (λ (v : PassView). with_workers (vec_len c.in_ok-dealt.dealt) v) c.in_ok-words.ensures.view ∙ ap (λ (n : ℕ). with_workers n (first_view round)) c.in_ok-dealt.ensures.len)) in
+    (c.in_ok-members.ensures.first ∙ (ap (λ (v : PassView). with_workers (vec_len c.in_ok-sources.sources) v) c.in_ok-words.ensures.view
+    ∙ ap (λ (n : ℕ). with_workers n (first_view round)) (vec-many c.args.project.now c.in_ok-dealt.dealt c.in_ok-sources.sources c.in_ok-sources.ensures ∙ c.in_ok-dealt.ensures.len))) in
     let gathered : Gathered c.args.project.now c.args.table.now c.args.records.now c.args.terms c.args.workers c.in_ok-rows.rows c.in_ok-words.words round c.args.frontier c.in_ok-dealt.dealt.items c.in_ok-members.members.items c.run_members.new.members.items
     c.in_ok-whole.whole c.gather.new.first.view = record { ran = ran; sound = c.in_ok-whole.ensures.sound; whole_is = subst (λ (n : ℕ). IsWholeOf c.args.project.now n c.run_members.new.members.items c.in_ok-whole.whole) c.len.ensures c.in_ok-whole.ensures.whole; joined = joined } in
     (gathered-view _ _ _ _ _ _ _ _ _ _ _ _ _ _ gathered).all
@@ -103,11 +148,14 @@ settled-requires-clause-published g c =
       quota = c.requires.quota;
       many = list-many c.in_ok-dealt.dealt ∙ c.in_ok-dealt.ensures.len;
       dealt = c.in_ok-dealt.ensures.dealt;
-      seated = subst (λ (v : PassView). AreSeated c.in_ok-words.words v 1 c.in_ok-dealt.dealt.items c.in_ok-members.members.items) c.in_ok-words.ensures.view c.in_ok-members.ensures.members;
+      sources = c.in_ok-sources.sources.items;
+      new = c.in_ok-sources.ensures;
+      seated = subst (λ (v : PassView). AreSeated c.in_ok-words.words v 1 c.in_ok-sources.sources.items c.in_ok-members.members.items) c.in_ok-words.ensures.view c.in_ok-members.ensures.members;
       went = c.run_members.ensures;
     } in
     let joined : c.gather.new.first.view ≡ joined_views (with_workers c.args.workers (first_view round)) c.run_members.new.members.items = c.in_ok-whole.ensures.view ∙ ap (λ (v : PassView). joined_views v c.run_members.new.members.items)
-    (c.in_ok-members.ensures.first ∙ (ap (λ (v : PassView). with_workers (vec_len c.in_ok-dealt.dealt) v) c.in_ok-words.ensures.view ∙ ap (λ (n : ℕ). with_workers n (first_view round)) c.in_ok-dealt.ensures.len)) in
+    (c.in_ok-members.ensures.first ∙ (ap (λ (v : PassView). with_workers (vec_len c.in_ok-sources.sources) v) c.in_ok-words.ensures.view
+    ∙ ap (λ (n : ℕ). with_workers n (first_view round)) (vec-many c.args.project.now c.in_ok-dealt.dealt c.in_ok-sources.sources c.in_ok-sources.ensures ∙ c.in_ok-dealt.ensures.len))) in
     let gathered : Gathered c.args.project.now c.args.table.now c.args.records.now c.args.terms c.args.workers c.in_ok-rows.rows c.in_ok-words.words round c.args.frontier c.in_ok-dealt.dealt.items c.in_ok-members.members.items c.run_members.new.members.items
     c.in_ok-whole.whole c.gather.new.first.view = record { ran = ran; sound = c.in_ok-whole.ensures.sound; whole_is = subst (λ (n : ℕ). IsWholeOf c.args.project.now n c.run_members.new.members.items c.in_ok-whole.whole) c.len.ensures c.in_ok-whole.ensures.whole; joined = joined } in
     let terms_of = ap (λ (t : RoundTerms). t.workers) (gathered-view _ _ _ _ _ _ _ _ _ _ _ _ _ _ gathered).terms_of in
@@ -125,11 +173,14 @@ settled-requires-clause-cited g c =
       quota = c.requires.quota;
       many = list-many c.in_ok-dealt.dealt ∙ c.in_ok-dealt.ensures.len;
       dealt = c.in_ok-dealt.ensures.dealt;
-      seated = subst (λ (v : PassView). AreSeated c.in_ok-words.words v 1 c.in_ok-dealt.dealt.items c.in_ok-members.members.items) c.in_ok-words.ensures.view c.in_ok-members.ensures.members;
+      sources = c.in_ok-sources.sources.items;
+      new = c.in_ok-sources.ensures;
+      seated = subst (λ (v : PassView). AreSeated c.in_ok-words.words v 1 c.in_ok-sources.sources.items c.in_ok-members.members.items) c.in_ok-words.ensures.view c.in_ok-members.ensures.members;
       went = c.run_members.ensures;
     } in
     let joined : c.gather.new.first.view ≡ joined_views (with_workers c.args.workers (first_view round)) c.run_members.new.members.items = c.in_ok-whole.ensures.view ∙ ap (λ (v : PassView). joined_views v c.run_members.new.members.items)
-    (c.in_ok-members.ensures.first ∙ (ap (λ (v : PassView). with_workers (vec_len c.in_ok-dealt.dealt) v) c.in_ok-words.ensures.view ∙ ap (λ (n : ℕ). with_workers n (first_view round)) c.in_ok-dealt.ensures.len)) in
+    (c.in_ok-members.ensures.first ∙ (ap (λ (v : PassView). with_workers (vec_len c.in_ok-sources.sources) v) c.in_ok-words.ensures.view
+    ∙ ap (λ (n : ℕ). with_workers n (first_view round)) (vec-many c.args.project.now c.in_ok-dealt.dealt c.in_ok-sources.sources c.in_ok-sources.ensures ∙ c.in_ok-dealt.ensures.len))) in
     let gathered : Gathered c.args.project.now c.args.table.now c.args.records.now c.args.terms c.args.workers c.in_ok-rows.rows c.in_ok-words.words round c.args.frontier c.in_ok-dealt.dealt.items c.in_ok-members.members.items c.run_members.new.members.items
     c.in_ok-whole.whole c.gather.new.first.view = record { ran = ran; sound = c.in_ok-whole.ensures.sound; whole_is = subst (λ (n : ℕ). IsWholeOf c.args.project.now n c.run_members.new.members.items c.in_ok-whole.whole) c.len.ensures c.in_ok-whole.ensures.whole; joined = joined } in
     let terms_of = ap (λ (t : RoundTerms). t.workers) (gathered-view _ _ _ _ _ _ _ _ _ _ _ _ _ _ gathered).terms_of in
@@ -147,11 +198,14 @@ settled-requires-clause-many g c =
       quota = c.requires.quota;
       many = list-many c.in_ok-dealt.dealt ∙ c.in_ok-dealt.ensures.len;
       dealt = c.in_ok-dealt.ensures.dealt;
-      seated = subst (λ (v : PassView). AreSeated c.in_ok-words.words v 1 c.in_ok-dealt.dealt.items c.in_ok-members.members.items) c.in_ok-words.ensures.view c.in_ok-members.ensures.members;
+      sources = c.in_ok-sources.sources.items;
+      new = c.in_ok-sources.ensures;
+      seated = subst (λ (v : PassView). AreSeated c.in_ok-words.words v 1 c.in_ok-sources.sources.items c.in_ok-members.members.items) c.in_ok-words.ensures.view c.in_ok-members.ensures.members;
       went = c.run_members.ensures;
     } in
     let joined : c.gather.new.first.view ≡ joined_views (with_workers c.args.workers (first_view round)) c.run_members.new.members.items = c.in_ok-whole.ensures.view ∙ ap (λ (v : PassView). joined_views v c.run_members.new.members.items)
-    (c.in_ok-members.ensures.first ∙ (ap (λ (v : PassView). with_workers (vec_len c.in_ok-dealt.dealt) v) c.in_ok-words.ensures.view ∙ ap (λ (n : ℕ). with_workers n (first_view round)) c.in_ok-dealt.ensures.len)) in
+    (c.in_ok-members.ensures.first ∙ (ap (λ (v : PassView). with_workers (vec_len c.in_ok-sources.sources) v) c.in_ok-words.ensures.view
+    ∙ ap (λ (n : ℕ). with_workers n (first_view round)) (vec-many c.args.project.now c.in_ok-dealt.dealt c.in_ok-sources.sources c.in_ok-sources.ensures ∙ c.in_ok-dealt.ensures.len))) in
     let gathered : Gathered c.args.project.now c.args.table.now c.args.records.now c.args.terms c.args.workers c.in_ok-rows.rows c.in_ok-words.words round c.args.frontier c.in_ok-dealt.dealt.items c.in_ok-members.members.items c.run_members.new.members.items
     c.in_ok-whole.whole c.gather.new.first.view = record { ran = ran; sound = c.in_ok-whole.ensures.sound; whole_is = subst (λ (n : ℕ). IsWholeOf c.args.project.now n c.run_members.new.members.items c.in_ok-whole.whole) c.len.ensures c.in_ok-whole.ensures.whole; joined = joined } in
     let terms_of = ap (λ (t : RoundTerms). t.workers) (gathered-view _ _ _ _ _ _ _ _ _ _ _ _ _ _ gathered).terms_of in
@@ -169,11 +223,14 @@ settled-requires-clause-fills g c =
       quota = c.requires.quota;
       many = list-many c.in_ok-dealt.dealt ∙ c.in_ok-dealt.ensures.len;
       dealt = c.in_ok-dealt.ensures.dealt;
-      seated = subst (λ (v : PassView). AreSeated c.in_ok-words.words v 1 c.in_ok-dealt.dealt.items c.in_ok-members.members.items) c.in_ok-words.ensures.view c.in_ok-members.ensures.members;
+      sources = c.in_ok-sources.sources.items;
+      new = c.in_ok-sources.ensures;
+      seated = subst (λ (v : PassView). AreSeated c.in_ok-words.words v 1 c.in_ok-sources.sources.items c.in_ok-members.members.items) c.in_ok-words.ensures.view c.in_ok-members.ensures.members;
       went = c.run_members.ensures;
     } in
     let joined : c.gather.new.first.view ≡ joined_views (with_workers c.args.workers (first_view round)) c.run_members.new.members.items = c.in_ok-whole.ensures.view ∙ ap (λ (v : PassView). joined_views v c.run_members.new.members.items)
-    (c.in_ok-members.ensures.first ∙ (ap (λ (v : PassView). with_workers (vec_len c.in_ok-dealt.dealt) v) c.in_ok-words.ensures.view ∙ ap (λ (n : ℕ). with_workers n (first_view round)) c.in_ok-dealt.ensures.len)) in
+    (c.in_ok-members.ensures.first ∙ (ap (λ (v : PassView). with_workers (vec_len c.in_ok-sources.sources) v) c.in_ok-words.ensures.view
+    ∙ ap (λ (n : ℕ). with_workers n (first_view round)) (vec-many c.args.project.now c.in_ok-dealt.dealt c.in_ok-sources.sources c.in_ok-sources.ensures ∙ c.in_ok-dealt.ensures.len))) in
     let gathered : Gathered c.args.project.now c.args.table.now c.args.records.now c.args.terms c.args.workers c.in_ok-rows.rows c.in_ok-words.words round c.args.frontier c.in_ok-dealt.dealt.items c.in_ok-members.members.items c.run_members.new.members.items
     c.in_ok-whole.whole c.gather.new.first.view = record { ran = ran; sound = c.in_ok-whole.ensures.sound; whole_is = subst (λ (n : ℕ). IsWholeOf c.args.project.now n c.run_members.new.members.items c.in_ok-whole.whole) c.len.ensures c.in_ok-whole.ensures.whole; joined = joined } in
     let terms_of = ap (λ (t : RoundTerms). t.workers) (gathered-view _ _ _ _ _ _ _ _ _ _ _ _ _ _ gathered).terms_of in
@@ -191,11 +248,14 @@ ended-requires g c =
       quota = c.requires.quota;
       many = list-many c.in_ok-dealt.dealt ∙ c.in_ok-dealt.ensures.len;
       dealt = c.in_ok-dealt.ensures.dealt;
-      seated = subst (λ (v : PassView). AreSeated c.in_ok-words.words v 1 c.in_ok-dealt.dealt.items c.in_ok-members.members.items) c.in_ok-words.ensures.view c.in_ok-members.ensures.members;
+      sources = c.in_ok-sources.sources.items;
+      new = c.in_ok-sources.ensures;
+      seated = subst (λ (v : PassView). AreSeated c.in_ok-words.words v 1 c.in_ok-sources.sources.items c.in_ok-members.members.items) c.in_ok-words.ensures.view c.in_ok-members.ensures.members;
       went = c.run_members.ensures;
     } in
     let joined : c.gather.new.first.view ≡ joined_views (with_workers c.args.workers (first_view round)) c.run_members.new.members.items = c.in_ok-whole.ensures.view ∙ ap (λ (v : PassView). joined_views v c.run_members.new.members.items)
-    (c.in_ok-members.ensures.first ∙ (ap (λ (v : PassView). with_workers (vec_len c.in_ok-dealt.dealt) v) c.in_ok-words.ensures.view ∙ ap (λ (n : ℕ). with_workers n (first_view round)) c.in_ok-dealt.ensures.len)) in
+    (c.in_ok-members.ensures.first ∙ (ap (λ (v : PassView). with_workers (vec_len c.in_ok-sources.sources) v) c.in_ok-words.ensures.view
+    ∙ ap (λ (n : ℕ). with_workers n (first_view round)) (vec-many c.args.project.now c.in_ok-dealt.dealt c.in_ok-sources.sources c.in_ok-sources.ensures ∙ c.in_ok-dealt.ensures.len))) in
     let gathered : Gathered c.args.project.now c.args.table.now c.args.records.now c.args.terms c.args.workers c.in_ok-rows.rows c.in_ok-words.words round c.args.frontier c.in_ok-dealt.dealt.items c.in_ok-members.members.items c.run_members.new.members.items
     c.in_ok-whole.whole c.gather.new.first.view = record { ran = ran; sound = c.in_ok-whole.ensures.sound; whole_is = subst (λ (n : ℕ). IsWholeOf c.args.project.now n c.run_members.new.members.items c.in_ok-whole.whole) c.len.ensures c.in_ok-whole.ensures.whole; joined = joined } in
     let close : Closes round c.gather.new.first.view c.close_with-end.result.best c.close_with-end.result.tickets = record { best_is = c.close_with-end.ensures.best; seen = c.close_with-end.ensures.seen; won = c.close_with-end.ensures.won; spent = c.close_with-end.ensures.spent } in
@@ -215,11 +275,14 @@ returns g c =
       quota = c.requires.quota;
       many = list-many c.in_ok-dealt.dealt ∙ c.in_ok-dealt.ensures.len;
       dealt = c.in_ok-dealt.ensures.dealt;
-      seated = subst (λ (v : PassView). AreSeated c.in_ok-words.words v 1 c.in_ok-dealt.dealt.items c.in_ok-members.members.items) c.in_ok-words.ensures.view c.in_ok-members.ensures.members;
+      sources = c.in_ok-sources.sources.items;
+      new = c.in_ok-sources.ensures;
+      seated = subst (λ (v : PassView). AreSeated c.in_ok-words.words v 1 c.in_ok-sources.sources.items c.in_ok-members.members.items) c.in_ok-words.ensures.view c.in_ok-members.ensures.members;
       went = c.run_members.ensures;
     } in
     let joined : c.gather.new.first.view ≡ joined_views (with_workers c.args.workers (first_view round)) c.run_members.new.members.items = c.in_ok-whole.ensures.view ∙ ap (λ (v : PassView). joined_views v c.run_members.new.members.items)
-    (c.in_ok-members.ensures.first ∙ (ap (λ (v : PassView). with_workers (vec_len c.in_ok-dealt.dealt) v) c.in_ok-words.ensures.view ∙ ap (λ (n : ℕ). with_workers n (first_view round)) c.in_ok-dealt.ensures.len)) in
+    (c.in_ok-members.ensures.first ∙ (ap (λ (v : PassView). with_workers (vec_len c.in_ok-sources.sources) v) c.in_ok-words.ensures.view
+    ∙ ap (λ (n : ℕ). with_workers n (first_view round)) (vec-many c.args.project.now c.in_ok-dealt.dealt c.in_ok-sources.sources c.in_ok-sources.ensures ∙ c.in_ok-dealt.ensures.len))) in
     let gathered : Gathered c.args.project.now c.args.table.now c.args.records.now c.args.terms c.args.workers c.in_ok-rows.rows c.in_ok-words.words round c.args.frontier c.in_ok-dealt.dealt.items c.in_ok-members.members.items c.run_members.new.members.items
     c.in_ok-whole.whole c.gather.new.first.view = record { ran = ran; sound = c.in_ok-whole.ensures.sound; whole_is = subst (λ (n : ℕ). IsWholeOf c.args.project.now n c.run_members.new.members.items c.in_ok-whole.whole) c.len.ensures c.in_ok-whole.ensures.whole; joined = joined } in
     if_ok-weaker (EndsAs c.settled.result c.close_with-end.result.best) (IsRoundOn c.args.project.now c.args.workers c.args.table.now c.args.records.now c.args.frontier c.args.terms) c.ended.result c.ended.ensures

@@ -8,10 +8,10 @@ returns g c =
     record {
       pass_table = e.table;
       stays = e.stays;
+      source = e.source;
       done = λ ok.
           let good = sym c.is_err-member.ensures.value ∙ ok in
           record {
-            nodes = from-answer c.work-done.result _ good e.nodes;
             work = from-answer c.work-done.result _ good e.work;
             counts = from-answer c.work-done.result _ good e.counts;
             few = from-answer c.work-done.result _ good e.few;

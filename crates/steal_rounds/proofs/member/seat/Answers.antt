@@ -1,6 +1,5 @@
-use Rattle.std.proofs.Common.{rules, ◌≡◌, ◌∙◌, ◌+◌, ◌++◌, ◌∷◌, [], ℕ, sym, ap, subst, arith, List, length-append, append_assoc, vec_len, Global}
-use Rattle.std.specs.declared.vec.Vec.{Vec}
-use Rattle.search_rounds.specs.declared.round.WaitingNode.{WaitingNode}
+use Rattle.std.proofs.Common.{rules, ◌≡◌, ◌∙◌, ◌+◌, ◌++◌, ◌∷◌, [], ℕ, sym, ap, subst, arith, List, length-append, append_assoc, vec_len}
+use Rattle.node_sources.specs.Source.{SourceState}
 use Rattle.search_table.specs.declared.view.PassView.{PassView}
 use Rattle.search_table.specs.PassState.{PassState}
 use Rattle.search_table.specs.Lists.{Lacks}
@@ -12,27 +11,27 @@ use Rattle.steal_rounds.proofs.member.seat.Goals as goal
 
 pub split-pass-requires-clause-once : goal.split-pass-requires-clause-once
 split-pass-requires-clause-once c =
-    subst (λ (ks : List ℕ). Lacks ks (c.len-in-Some.result + 1)) (sym (ap (λ (v : PassView). v.split_off) c.loop-nodes.invariant.view))
-    (lacks-next (vec_len c.loop-nodes.members) (c.len-in-Some.result + 1) (ap (λ (n : ℕ). n + 1) c.len-in-Some.ensures))
+    subst (λ (ks : List ℕ). Lacks ks (c.len-in-Some.result + 1)) (sym (ap (λ (v : PassView). v.split_off) c.loop-source.invariant.view))
+    (lacks-next (vec_len c.loop-source.members) (c.len-in-Some.result + 1) (ap (λ (n : ℕ). n + 1) c.len-in-Some.ensures))
 
-pub loop-nodes-preserved : goal.loop-nodes-preserved
-loop-nodes-preserved c =
-    let v = c.loop-nodes.invariant in
-    let n : ℕ = vec_len c.loop-nodes.members in
+pub loop-source-preserved : goal.loop-source-preserved
+loop-source-preserved c =
+    let v = c.loop-source.invariant in
+    let n : ℕ = vec_len c.loop-source.members in
     let q : ℕ = c.len-in-Some.result + 1 in
     let number : q ≡ n + 1 = ap (λ (k : ℕ). k + 1) c.len-in-Some.ensures in
     let many = c.in_ok-push.ensures.len in
     let fresh : c.new_member.result.pass.view ≡ worker_view q c.args.first.now.view =
     ap (λ (p : PassState). p.view) c.new_member.ensures.pass ∙ (c.split-pass.ensures.split_view ∙ ap (worker_view q) v.view) in
-    let len = length-append v.done (c.in-Some.nodes ∷ []) in
+    let len = length-append v.done (c.in-Some.source ∷ []) in
     let old = v.many in
     record {
       table = c.split-pass.ensures.table ∙ v.table;
       view = c.split-pass.ensures.view ∙ (ap (with_worker q) v.view ∙ (one-more_split n q c.args.first.now.view number ∙ ap (λ (k : ℕ). with_workers k c.args.first.now.view) (sym many)));
-      done = v.done ++ c.in-Some.nodes ∷ [];
-      all = v.all ∙ (ap (λ (xs : List (Vec WaitingNode Global)). v.done ++ xs) c.in-Some.ensures.items ∙ sym (append_assoc v.done (c.in-Some.nodes ∷ []) c.pop_front.new.self.items));
-      seated = subst (λ (ms : List Member). AreSeated c.args.words.now c.args.first.now.view 1 (v.done ++ c.in-Some.nodes ∷ []) ms) (sym c.in_ok-push.ensures.items)
-          (one-more_seated c.args.words.now c.args.first.now.view 1 v.done c.loop-nodes.members.items c.in-Some.nodes c.new_member.result q v.seated (search rules)
-          (record { pass_table = ap (λ (p : PassState). p.table) c.new_member.ensures.pass ∙ (c.split-pass.ensures.split_table ∙ v.table); pass = fresh; worker = c.new_member.ensures.worker; part = c.new_member.ensures.part }));
+      done = v.done ++ c.in-Some.source ∷ [];
+      all = v.all ∙ (ap (λ (xs : List SourceState). v.done ++ xs) c.in-Some.ensures.items ∙ sym (append_assoc v.done (c.in-Some.source ∷ []) c.pop_front.new.self.items));
+      seated = subst (λ (ms : List Member). AreSeated c.args.words.now c.args.first.now.view 1 (v.done ++ c.in-Some.source ∷ []) ms) (sym c.in_ok-push.ensures.items)
+          (one-more_seated c.args.words.now c.args.first.now.view 1 v.done c.loop-source.members.items c.in-Some.source c.new_member.result q v.seated (search rules)
+          (record { pass_table = ap (λ (p : PassState). p.table) c.new_member.ensures.pass ∙ (c.split-pass.ensures.split_table ∙ v.table); pass = fresh; worker = c.new_member.ensures.worker; part = c.new_member.ensures.part; source = c.new_member.ensures.source }));
       many = omega arith;
     }

@@ -1,19 +1,18 @@
-use Rattle.std.proofs.Common.{◌≡◌, ◌++◌, length, vec_len, List, Global}
-use Rattle.std.specs.declared.vec.Vec.{Vec}
+use Rattle.std.proofs.Common.{◌≡◌, ◌++◌, length, vec_len, List}
 use Rattle.std.specs.VecDeque.{deque_len}
-use Rattle.search_rounds.specs.declared.round.WaitingNode.{WaitingNode}
+use Rattle.node_sources.specs.Source.{SourceState}
 use Rattle.steal_rounds.specs.Members.{with_workers, AreSeated}
 use Rattle.steal_rounds.proofs.member.seat.Given as goal
 
-abbrev pub invariant-loop-nodes : goal.invariant-loop-nodes
-invariant-loop-nodes l = record {
+abbrev pub invariant-loop-source : goal.invariant-loop-source
+invariant-loop-source l = record {
   table : l.first.table ≡ l.words;
   view : l.first.view ≡ with_workers (vec_len l.members) l.initial.first.view;
-  done : List (Vec WaitingNode Global);
-  all : l.initial.dealt.items ≡ done ++ l.dealt.items;
+  done : List SourceState;
+  all : l.initial.sources.items ≡ done ++ l.sources.items;
   seated : AreSeated l.words l.initial.first.view 1 done l.members.items;
   many : length done ≡ vec_len l.members;
 }
 
-abbrev pub decreases-loop-nodes : goal.decreases-loop-nodes
-decreases-loop-nodes l = deque_len l.dealt
+abbrev pub decreases-loop-source : goal.decreases-loop-source
+decreases-loop-source l = deque_len l.sources

@@ -1,7 +1,7 @@
-use Rattle.std.proofs.Common.{◌≡◌, length, All}
-use Rattle.precedence_tree.specs.Node.{StandsFor}
+use Rattle.std.proofs.Common.{◌≡◌, length}
 use Rattle.tree_worker.specs.Worker.{IsAtWork}
 use Rattle.tree_worker.specs.Visits.{StaysOf}
+use Rattle.node_sources.specs.Seats.{Stays}
 use Rattle.steal_rounds.specs.Turns.{stage_of, KeepsShare, Counts}
 use Rattle.steal_rounds.proofs.work.work.Given as goal
 
@@ -11,7 +11,7 @@ invariant-loop-done g l = record {
   stays : StaysOf l.initial.pass.view l.pass.view;
   work : IsAtWork l.project l.rows (record { worker = l.worker; pass = l.pass.view });
   unrefused : l.pass.view.refused ≡ 0;
-  nodes : All (λ w. StandsFor l.project w.node) l.part.source;
+  source : Stays l.initial.part.source l.part.source;
   counts : Counts (stage_of l.worker l.pass l.part);
   fills : length l.part.fills.items ≡ l.done;
   number : l.number ≡ l.pass.view.number;

@@ -1,0 +1,7 @@
+mod Nodes
+mod Thefts
+mod Takings
+mod Reached
+mod NewSeats
+pub mod Stays
+mod Joins
