@@ -7,11 +7,11 @@
 mod bound_tests;
 #[cfg(test)]
 mod check_tests;
+#[cfg(test)]
+mod crew_tests;
 mod file_shelf;
 #[cfg(test)]
 mod hostile_tests;
-#[cfg(test)]
-mod meeting_tests;
 #[cfg(test)]
 mod plan_tests;
 #[cfg(test)]
