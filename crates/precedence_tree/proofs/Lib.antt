@@ -4,9 +4,14 @@ pub mod Rests
 pub mod Chosen
 pub mod Actives
 pub mod Pushed
+pub mod Frontiers
+pub mod LowestBits
+pub mod LongestTails
 pub mod StartSteps
 pub mod BreakSteps
 pub mod NodeSteps
+pub mod KnownBases
 pub mod Branches
+pub mod ChoiceCounts
 pub mod Leaves
 pub mod Parts

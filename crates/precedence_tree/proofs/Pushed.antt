@@ -85,18 +85,6 @@ still-eligible P F e j el other = record {
   preds = λ i b. has_job-push_true F e i (el.preds i b);
 }
 
-pub eligible-push : (P : Project) (F : List Entry) (e : Entry) (placed old next : JobSet) → IsAcyclic P → HasJobs (F ++ e ∷ []) placed → AreEligible P F old →
-    ((j : ℕ) → 1 ≤ j → (member next j ≡ true) ↔ (((member old j ≡ true) ⊎ Before P e.job j) × IsOpenBeside P placed j)) → AreEligible P (F ++ e ∷ []) next
-eligible-push P F e placed old next a has before are j low =
-    let both = are j low in (
-      λ m. open-eligible P (F ++ e ∷ []) placed j a has (both.0 m).1,
-      λ el. both.1 (from (eligible-before P F e j el), eligible-open P (F ++ e ∷ []) placed j a has el),
-    )
-  where
-    from : IsEligible P F j ⊎ Before P e.job j → (member old j ≡ true) ⊎ Before P e.job j
-    from (inl was) = inl ((before j low).1 was)
-    from (inr follows) = inr follows
-
 -- Needs and works.
 
 pub budget-limit : (P : Project) (l : ℕ) → IsWithinLimits P → IsNonrenewable P l → budget P l ≤ 1000000

@@ -1,9 +1,9 @@
-ghost use Rattle.std.specs.Prelude.{◌≡◌, ℕ, ◌≤◌, ◌↔◌, true, All, IsOk, IfOk, OnOk};
+ghost use Rattle.std.specs.Prelude.{◌≡◌, ℕ, ◌≤◌, ◌↔◌, true, length, All, IsOk, IfOk, OnOk};
 ghost use Rattle.sched_base.specs.JobSet.{member};
 ghost use Rattle.rcpsp_model.specs.declared.parts.Child.TheVariants.{Placed};
 ghost use Rattle.rcpsp_model.specs.declared.parts.Shut.{Shut as Why};
 ghost use Rattle.rcpsp_model.specs.Project.{IsMode};
-ghost use Rattle.rcpsp_model.specs.Tree.{IsEligible, IsShut, IsChild, choices_of, AreChildrenBy, AreChildren};
+ghost use Rattle.rcpsp_model.specs.Tree.{IsEligible, IsShut, IsChild, choices, choices_of, AreChildrenBy, AreChildren};
 ghost use Rattle.rcpsp_model.specs.Laws.{Exchanges};
 ghost use Rattle.precedence_tree.specs.Base.{IsBaseOf};
 ghost use Rattle.precedence_tree.specs.Node.{StandsFor};
@@ -90,6 +90,22 @@ fn push_by_mode(
     Ok(())
 }
 
+/// How many children an expanded front has: one for each mode of each eligible job.
+fn count_of_children(project: &Project, expansion: &Expansion) -> usize
+    requires { IsBaseOf project.now expansion.now }
+    ensures { result ≡ length (choices project.now expansion.now.front) }
+{
+    project.known();
+    let jobs = expansion.base().eligible;
+    let mut count = 0;
+    let mut above = 0;
+    while let Some(job) = jobs.next_after(above) {
+        count += project.modes(job.0) as usize;
+        above = job.0;
+    }
+    count
+}
+
 /// The children of an expanded front: by ascending job, and then by ascending mode.
 pub fn children_of(
     alloc: Global,
@@ -105,7 +121,8 @@ pub fn children_of(
 {
     project.known();
     let jobs = expansion.base().eligible;
-    let mut all = Vec::new(alloc);
+    let count = count_of_children(project, expansion);
+    let mut all = Vec::with_capacity(alloc, count)?;
     let mut last = 0;
     while let Some(job) = jobs.next_after(last) {
         push_by_mode(project, expansion, job.0, &mut all)?;

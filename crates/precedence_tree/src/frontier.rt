@@ -1,7 +1,7 @@
 ghost use Rattle.std.specs.Prelude.{◌≡◌, ℕ, ◌≤◌, ◌↔◌, ◌⊎◌, true, IsTrue};
 ghost use Rattle.sched_base.specs.JobSet.{member};
-ghost use Rattle.rcpsp_model.specs.Project.{IsJob, Before};
-ghost use Rattle.precedence_tree.specs.Frontier.{IsOpenBeside};
+ghost use Rattle.rcpsp_model.specs.Project.{IsJob};
+ghost use Rattle.precedence_tree.specs.Frontier.{IsOpenBeside, Stays, Opens};
 
 use project_net::Project;
 use sched_base::{Job, JobSet};
@@ -31,22 +31,41 @@ pub fn open_jobs(project: &Project, placed: JobSet) -> JobSet
     open
 }
 
-/// Those of the jobs that were open, and of the successors of the one that was placed, that are open beside the placed
-/// jobs.
-pub fn open_after(project: &Project, eligible: JobSet, placed: JobSet, job: u8) -> JobSet
-    requires job { IsJob project.now job }
-    requires jobs { (j : ℕ) → 1 ≤ j → member eligible j ≡ true → IsJob project.now j }
-    ensures { (j : ℕ) → 1 ≤ j → (member result j ≡ true) ↔ (((member eligible j ≡ true) ⊎ Before project.now job j) × IsOpenBeside project.now placed j) }
+/// The set without the job.
+fn without(jobs: JobSet, job: u8) -> JobSet
+    requires low { 1 ≤ job }
+    requires high { job ≤ 128 }
+    ensures { (j : ℕ) → 1 ≤ j → (member result j ≡ true) ↔ Stays jobs job j }
+{
+    JobSet(jobs.0 & !(1 << (job - 1)))
+}
+
+/// The successors of the job that are open beside the placed jobs.
+fn open_behind(project: &Project, placed: JobSet, job: u8) -> JobSet
+    requires { IsJob project.now job }
+    ensures { (j : ℕ) → 1 ≤ j → (member result j ≡ true) ↔ Opens project.now placed job j }
 {
     project.known();
-    let candidates = eligible.union(project.succs(job));
-    let mut next = JobSet::empty();
+    let successors = project.succs(job);
+    let mut open = JobSet::empty();
     let mut last = 0;
-    while let Some(candidate) = candidates.next_after(last) {
-        if is_open(project, placed, candidate.0) {
-            next = next.with(candidate);
+    while let Some(next) = successors.next_after(last) {
+        if is_open(project, placed, next.0) {
+            open = open.with(next);
         }
-        last = candidate.0;
+        last = next.0;
     }
-    next
+    open
+}
+
+/// The open jobs after one of them is placed: the others, and its successors that are open beside the placed jobs.
+///
+/// What is open stays so until it is placed, so that the successors alone are asked.
+pub fn open_after(project: &Project, eligible: JobSet, placed: JobSet, job: u8) -> JobSet
+    requires { IsJob project.now job }
+    ensures { (j : ℕ) → 1 ≤ j → (member result j ≡ true) ↔ (Stays eligible job j ⊎ Opens project.now placed job j) }
+{
+    project.known();
+    let behind = open_behind(project, placed, job);
+    without(eligible, job).union(behind)
 }

@@ -15,6 +15,7 @@ mod leaf;
 mod needs;
 mod node;
 mod starts;
+mod tails;
 mod works;
 
 pub use active::Active;

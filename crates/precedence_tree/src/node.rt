@@ -6,6 +6,7 @@ ghost use Rattle.rcpsp_model.specs.Tree.{has_job, last_start, rest_need, entry_a
 ghost use Rattle.precedence_tree.specs.Active.{AreActive, AreByFinish};
 ghost use Rattle.precedence_tree.specs.Needs.{AreNeeds, AreWorks, open_work};
 ghost use Rattle.precedence_tree.specs.Frontier.{AreEligible};
+ghost use Rattle.precedence_tree.specs.Tails.{IsLongestTail};
 ghost use Rattle.precedence_tree.specs.Base.{IsBaseOf};
 ghost use Rattle.precedence_tree.specs.Node.{StandsFor, front_before, newest_of, joined};
 
@@ -13,6 +14,7 @@ use crate::active::{Active, done_by};
 use crate::base::Expansion;
 use crate::frontier::{open_after, open_jobs};
 use crate::needs::Needs;
+use crate::tails::longest_tail;
 use crate::works::{Works, least_work_of_all};
 use project_net::Project;
 use rcpsp_model::Entry;
@@ -288,15 +290,20 @@ impl Node {
         }
     }
 
-    /// The jobs that could be placed next before the last one was; at the root those that can be.
-    pub fn eligible_before(&self, project: &Project) -> JobSet
+    /// The greatest tail of the jobs that could be placed next before the last one was, in periods; at the root that of
+    /// those that can be; 0 where there are none.
+    pub fn longest_tail_before(&self, project: &Project) -> u32
         requires { StandsFor project.now self.now }
-        ensures { AreEligible project.now (front_before self.now.base) result }
+        ensures value { IsLongestTail project.now (front_before self.now.base) result }
+        ensures limit { result ≤ 1280000 }
     {
         project.known();
         match &self.base {
-            Some(base) => base.base().eligible,
-            None => open_jobs(project, JobSet::empty()),
+            Some(base) => base.base().longest_tail,
+            None => {
+                let open = open_jobs(project, JobSet::empty());
+                longest_tail(project, open)
+            }
         }
     }
 }

@@ -1,9 +1,9 @@
 use Rattle.std.proofs.Common.{◌+◌, arith, refl}
 use Rattle.std.specs.Int.{trailing_zeros, w128}
 use Rattle.sched_base.proofs.Sets.{member-one}
-use Rattle.plan_bounds.proofs.LowestBits.{lowest-taken}
-use Rattle.plan_bounds.proofs.TailSteps.{longest-none, longest-more, longest-all}
-use Rattle.plan_bounds.proofs.tails.longest_tail.Goals as goal
+use Rattle.precedence_tree.proofs.LowestBits.{lowest-taken}
+use Rattle.precedence_tree.proofs.LongestTails.{longest-none, longest-more, longest-all}
+use Rattle.precedence_tree.proofs.tails.longest_tail.Goals as goal
 
 pub loop-rest-init : goal.loop-rest-init
 loop-rest-init c = (longest-none c.args.project.now c.args.jobs, omega arith)
@@ -25,4 +25,4 @@ loop-rest-preserved c = (
 )
 
 pub returns-clause-value : goal.returns-clause-value
-returns-clause-value c = longest-all c.args.project.now c.args.jobs c.loop-rest.rest c.loop-rest.longest (omega arith) c.loop-rest.invariant.0
+returns-clause-value c = λ F are. longest-all c.args.project.now F c.args.jobs c.loop-rest.rest c.loop-rest.longest (omega arith) c.loop-rest.invariant.0 are
