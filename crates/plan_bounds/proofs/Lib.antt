@@ -1,4 +1,3 @@
-pub mod LowestBits
 pub mod TailSteps
 pub mod Parts
 pub mod SupplySteps

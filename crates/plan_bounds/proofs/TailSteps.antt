@@ -1,15 +1,10 @@
 -- The tail bound by the jobs that were eligible before the newest one, and by the active ones.
-use Rattle.std.proofs.Common.{◌≡◌, ℕ, zero, suc, ◌+◌, ◌-◌, ◌<◌, ◌≤◌, max, ◌⊎◌, inl, inr, arith, refl, sym, ap, subst, ◌∙◌, true, false, eqb, List, [], ◌∷◌, length, get_or, take}
+use Rattle.std.proofs.Common.{◌≡◌, ℕ, zero, suc, ◌+◌, ◌-◌, ◌<◌, ◌≤◌, max, ◌⊎◌, inl, inr, arith, refl, sym, ap, subst, ◌∙◌, false, eqb, List, [], ◌∷◌, length, get_or, take}
 use Rattle.std.specs.Prelude.{◌++◌, All, Option, Some, None, sum_by, filter}
-use Rattle.std.specs.Int.{bit_at}
-use Rattle.std.proofs.lemmas.Bool.{cases_Bool, cases_lt, cases_eq, both_ways, eqb-true}
+use Rattle.std.proofs.lemmas.Bool.{cases_Bool, cases_lt, both_ways, eqb-true}
 use Rattle.std.proofs.lemmas.List.Elements.{All-cons, All-nil, All-head, All-more, All-contains, Contains-get_or}
 use Rattle.std.proofs.lemmas.List.Sums.{fold_push}
-use Rattle.std.proofs.lemmas.Nat.Bits.{bit_at-zero, bit_at-lt}
 use Rattle.std.proofs.Math.Seq.{take-length}
-use Rattle.sched_base.specs.declared.job_set.JobSet.{JobSet}
-use Rattle.sched_base.specs.JobSet.{member}
-use Rattle.sched_base.proofs.Sets.{member-zero, member-one}
 use Rattle.rcpsp_model.specs.declared.parts.Entry.{Entry}
 use Rattle.rcpsp_model.specs.Project.{Project, IsJob, IsAcyclic, Before, is_before, job_count}
 use Rattle.rcpsp_model.specs.Schedule.{finish, end_of}
@@ -27,19 +22,16 @@ use Rattle.rcpsp_model.proofs.RootAndLeaves.{front-push}
 use Rattle.rcpsp_model.proofs.BoundsHold.{least_duration-le}
 use Rattle.precedence_tree.specs.declared.active.Active.{Active}
 use Rattle.precedence_tree.specs.Active.{IsActive, AreActive}
-use Rattle.precedence_tree.specs.Frontier.{AreEligible}
 use Rattle.precedence_tree.specs.declared.base.Base.{Base}
 use Rattle.precedence_tree.specs.Node.{joined, front_before, ContinuesFrom}
 use Rattle.precedence_tree.proofs.Ordered.{no_active}
 use Rattle.precedence_tree.proofs.Pushed.{eligible-before, still-eligible}
 use Rattle.precedence_tree.proofs.Actives.{front-starts, active-has}
-use Rattle.plan_bounds.specs.Tails.{IsZeroOrTail, IsAfter, IsFloorOrAfter}
-use Rattle.plan_bounds.proofs.LowestBits.{HasLowest}
+use Rattle.precedence_tree.specs.Tails.{IsLongestTail}
+use Rattle.precedence_tree.proofs.LongestTails.{tail-one}
+use Rattle.plan_bounds.specs.Tails.{IsAfter, IsFloorOrAfter}
 
 -- Tails.
-
-pub tail-one : (P : Project) (j a b : ℕ) → IsTail P j a → IsTail P j b → a ≡ b
-tail-one P j a b p q = let x = p.greatest b q.attained in let y = q.greatest a p.attained in omega arith
 
 pub tail-own : (P : Project) (j t : ℕ) → IsTail P j t → least_duration P j ≤ t
 tail-own P j t is = is.greatest (least_duration P j) ([], tt, let sum = sum_by-total (least_duration P) (j ∷ []) in omega arith)
@@ -63,47 +55,6 @@ tail-follows P a i t is = go is.attained.0 is.attained.1 is.attained.2
         let sum = sum_by-total (least_duration P) (i ∷ k ∷ js) in
         let rest = sum_by-total (least_duration P) (k ∷ js) in
         inr (k, own.0, c.0, own.1, (let same : t ≡ least_duration P i + own.0 = omega arith in same))
-
--- The greatest tail of the jobs of a set but for those of the rest: job j is bit j - 1 of the rest.
-pub record LongestBut (P : Project) (jobs : JobSet) (rest longest : ℕ) : Type 0 where
-  pub attained : IsZeroOrTail P jobs longest
-  pub within : (i : ℕ) → bit_at rest i ≡ 1 → bit_at jobs.0 i ≡ 1
-  pub each : (j u : ℕ) → 1 ≤ j → member jobs j ≡ true → bit_at rest (j - 1) ≡ 0 → IsTail P j u → u ≤ longest
-
-pub longest-none : (P : Project) (jobs : JobSet) → LongestBut P jobs jobs.0 0
-longest-none P jobs = record {
-  attained = inl refl;
-  within = λ i one. one;
-  each = λ j u low has none tail.
-      absurd (both_ways (member jobs j) (subst (λ (k : ℕ). member jobs k ≡ false) (let e : j - 1 + 1 ≡ j = omega arith in e) (member-zero jobs (j - 1) none)) has);
-}
-
-pub longest-more : (P : Project) (jobs : JobSet) (rest longest place less job t next : ℕ) → HasLowest rest place less → job ≡ place + 1 → IsTail P job t → next ≡ max longest t → LongestBut P jobs rest longest →
-    LongestBut P jobs less next
-longest-more P jobs rest longest place less job t next taken named is now so_far = record {
-  attained = elim (cases_lt longest t) [
-    | inl more ↦
-        let own = subst (λ (k : ℕ). member jobs k ≡ true) (sym named) (member-one jobs place (so_far.within place taken.set)) in
-        inr (job, (let e : 1 ≤ job = omega arith in e), own, subst (IsTail P job) (let e : t ≡ next = omega arith in e) is)
-    | inr fewer ↦ subst (IsZeroOrTail P jobs) (let e : longest ≡ next = omega arith in e) so_far.attained
-  ];
-  within = λ i one. so_far.within i (taken.within i one);
-  each = λ j u low has none tail. elim (cases_eq (bit_at rest (j - 1)) 0) [
-    | inl before ↦ let le = so_far.each j u low has before tail in omega arith
-    | inr set ↦
-        let most = bit_at-lt rest (j - 1) in
-        let own = taken.others (j - 1) (let e : bit_at rest (j - 1) ≡ 1 = omega arith in e) none in
-        let same : u ≡ t = tail-one P job u t (subst (λ (i : ℕ). IsTail P i u) (let e : j ≡ job = omega arith in e) tail) is in
-        omega arith
-  ];
-}
-
-pub longest-all : (P : Project) (jobs : JobSet) (rest longest : ℕ) → rest ≡ 0 → LongestBut P jobs rest longest → IsGreatest (IsZeroOrTail P jobs) longest
-longest-all P jobs rest longest none so_far = record { attained = so_far.attained; greatest = over }
-  where
-    over : (u : ℕ) → IsZeroOrTail P jobs u → u ≤ longest
-    over u (inl e) = omega arith
-    over u (inr j) = so_far.each j.0 u j.1 j.2 (ap (λ n. bit_at n (j.0 - 1)) none ∙ bit_at-zero (j.0 - 1)) j.3
 
 -- The greatest of a floor and of when the chains after the first n active jobs can be done.
 pub record PastTo (P : Project) (xs : List Active) (floor n bound : ℕ) : Type 0 where
@@ -196,18 +147,15 @@ reach-active P acyclic F f a n act job is =
       | inr none ↦ none
     ]
 
--- Each job of the set leads on to its tail from the last start, and each eligible job is no further from the end than one
--- of them.
-pub record AreAhead (P : Project) (F : List Entry) (options : JobSet) : Type 0 where
-  pub reached : (j t : ℕ) → 1 ≤ j → member options j ≡ true → IsTail P j t → Reached P F (last_start F + t)
-  pub longer : (j t longest : ℕ) → IsEligible P F j → IsTail P j t → IsGreatest (IsZeroOrTail P options) longest → t ≤ longest
+-- Each job that could be placed next after G leads on to its tail from the last start of F, and each that can be placed
+-- next after F is no further from the end than one of them.
+pub record AreAhead (P : Project) (F G : List Entry) : Type 0 where
+  pub reached : (j t : ℕ) → IsEligible P G j → IsTail P j t → Reached P F (last_start F + t)
+  pub longer : (j t longest : ℕ) → IsEligible P F j → IsTail P j t → IsLongestTail P G longest → t ≤ longest
 
 -- at the root the eligible jobs are such
-ahead-root : (P : Project) → IsAcyclic P → (options : JobSet) → AreEligible P [] options → AreAhead P [] options
-ahead-root P a options el = record {
-  reached = λ j t low has is. reach-eligible P a [] tt j t ((el j low).0 has) is;
-  longer = λ j t longest own is long. long.greatest t (inr (j, own.job.0, (el j own.job.0).1 own, is));
-}
+ahead-root : (P : Project) → IsAcyclic P → AreAhead P [] []
+ahead-root P a = record { reached = λ j t own is. reach-eligible P a [] tt j t own is; longer = λ j t longest own is long. long.greatest t (inr (j, own, is)) }
 
 -- what starts after the newest job isn't placed
 after-newest : (P : Project) → IsAcyclic P → (G : List Entry) (e : Entry) (j : ℕ) → IsFront P G → Follows P G e → Before P e.job j → has_job (G ++ e ∷ []) j ≡ false
@@ -234,26 +182,26 @@ reach-newest P a G e t f follows is =
     ]
 
 -- after it the jobs that were eligible before are such
-ahead-step : (P : Project) → IsAcyclic P → (G : List Entry) (e : Entry) (options : JobSet) → IsFront P G → Follows P G e → AreEligible P G options → AreAhead P (G ++ e ∷ []) options
-ahead-step P a G e options f follows el = record {
-  reached = λ j t low has is. elim (cases_Bool (eqb e.job j)) [
-    | inl own ↦ reach-newest P a G e t f follows (subst (λ (i : ℕ). IsTail P i t) (sym (eqb-true e.job j own)) is)
-    | inr other ↦ reach-eligible P a (G ++ e ∷ []) (front-push P G e f follows) j t (still-eligible P G e j ((el j low).0 has) other) is
+ahead-step : (P : Project) → IsAcyclic P → (G : List Entry) (e : Entry) → IsFront P G → Follows P G e → AreAhead P (G ++ e ∷ []) G
+ahead-step P a G e f follows = record {
+  reached = λ j t own is. elim (cases_Bool (eqb e.job j)) [
+    | inl mine ↦ reach-newest P a G e t f follows (subst (λ (i : ℕ). IsTail P i t) (sym (eqb-true e.job j mine)) is)
+    | inr other ↦ reach-eligible P a (G ++ e ∷ []) (front-push P G e f follows) j t (still-eligible P G e j own other) is
   ];
   longer = λ j t longest own is long. elim (eligible-before P G e j own) [
-    | inl before ↦ long.greatest t (inr (j, before.job.0, (el j before.job.0).1 before, is))
+    | inl before ↦ long.greatest t (inr (j, before, is))
     | inr after ↦
         let newest = follows.eligible in
         let tail = has_tail_law P e.job a newest.job in
-        let most = long.greatest tail.0 (inr (e.job, newest.job.0, (el e.job newest.job.0).1 newest, tail.1)) in
+        let most = long.greatest tail.0 (inr (e.job, newest, tail.1)) in
         let less = tail-before P e.job j tail.0 t after tail.1 is in
         omega arith
   ];
 }
 
-pub ahead-node : (P : Project) → IsAcyclic P → (o : Option Base) (F : List Entry) (e : Entry) (f : ℕ) (options : JobSet) → ContinuesFrom P o F e f → AreEligible P (front_before o) options → AreAhead P F options
-ahead-node P a None F e f options kept el = subst (λ (G : List Entry). AreAhead P G options) (sym kept.0) (ahead-root P a options el)
-ahead-node P a (Some b) F e f options kept el = subst (λ (G : List Entry). AreAhead P G options) (sym kept.front) (ahead-step P a b.front e options kept.base.front kept.follows el)
+pub ahead-node : (P : Project) → IsAcyclic P → (o : Option Base) (F : List Entry) (e : Entry) (f : ℕ) → ContinuesFrom P o F e f → AreAhead P F (front_before o)
+ahead-node P a None F e f kept = subst (λ (H : List Entry). AreAhead P H []) (sym kept.0) (ahead-root P a)
+ahead-node P a (Some b) F e f kept = subst (λ (H : List Entry). AreAhead P H b.front) (sym kept.front) (ahead-step P a b.front e kept.base.front kept.follows)
 
 -- Each unplaced job is no further from the end than an eligible one.
 pub record IsAhead (P : Project) (F : List Entry) (j i : ℕ) : Type 0 where
@@ -343,9 +291,9 @@ joined-In (Some b) xs a (inl (inl e)) = inl e
 joined-In (Some b) xs a (inl (inr i)) = absurd i
 joined-In (Some b) xs a (inr i) = inr i
 
-pub bound-from : (P : Project) → IsAcyclic P → (F : List Entry) (o : Option Active) (xs : List Active) (options : JobSet) (last end longest first newest bound : ℕ) → IsFront P F → AreActive P F (joined o xs) → AreAhead P F options →
-    last ≡ last_start F → end ≡ end_of P F → IsGreatest (IsZeroOrTail P options) longest → first ≡ max end (last + longest) → IsGreatest (IsFloorOrAfter P (joined o []) first) newest → IsGreatest (IsFloorOrAfter P xs newest) bound → IsTailBound P F bound
-bound-from P a F o xs options last end longest first newest bound f are ahead_of is_last is_end long now by_newest by_older = bound-is P a F (joined o xs) bound f are covers reached
+pub bound-from : (P : Project) → IsAcyclic P → (F G : List Entry) (o : Option Active) (xs : List Active) (last end longest first newest bound : ℕ) → IsFront P F → AreActive P F (joined o xs) → AreAhead P F G →
+    last ≡ last_start F → end ≡ end_of P F → IsLongestTail P G longest → first ≡ max end (last + longest) → IsGreatest (IsFloorOrAfter P (joined o []) first) newest → IsGreatest (IsFloorOrAfter P xs newest) bound → IsTailBound P F bound
+bound-from P a F G o xs last end longest first newest bound f are ahead_of is_last is_end long now by_newest by_older = bound-is P a F (joined o xs) bound f are covers reached
   where
     low : first ≤ newest
     low = by_newest.greatest first (inl refl)
@@ -372,7 +320,7 @@ bound-from P a F o xs options last end longest first newest bound f are ahead_of
     start = elim long.attained [
       | inl none ↦ (end_of P F, of_front, let within = last-le-end P F in omega arith)
       | inr j ↦ elim (cases_lt end (last + longest)) [
-        | inl more ↦ let r = ahead_of.reached j.0 longest j.1 j.2 j.3 in (r.0, r.1, let le = r.2 in omega arith)
+        | inl more ↦ let r = ahead_of.reached j.0 longest j.1 j.2 in (r.0, r.1, let le = r.2 in omega arith)
         | inr less ↦ (end_of P F, of_front, omega arith)
       ]
     ]

@@ -1,14 +1,8 @@
--- What leads on from the jobs that can be placed next and from the active ones.
-use Rattle.std.specs.Prelude.{◌≡◌, ℕ, ◌+◌, ◌≤◌, ◌⊎◌, true, Contains, List}
-use Rattle.sched_base.specs.declared.job_set.JobSet.{JobSet}
-use Rattle.sched_base.specs.JobSet.{member}
+-- What leads on from the active jobs.
+use Rattle.std.specs.Prelude.{◌≡◌, ℕ, ◌+◌, ◌⊎◌, Contains, List}
 use Rattle.rcpsp_model.specs.Project.{Project}
 use Rattle.rcpsp_model.specs.Chain.{IsTail, least_duration}
 use Rattle.precedence_tree.specs.declared.active.Active.{Active}
-
--- n is 0, or the tail of a job of the set
-abbrev pub IsZeroOrTail : Project → JobSet → ℕ → Type 0
-IsZeroOrTail P jobs n = (n ≡ 0) ⊎ ((j : ℕ) × (1 ≤ j) × (member jobs j ≡ true) × IsTail P j n)
 
 -- n is when the longest chain after the job can be done at the earliest: its finish and the tail, but for its own least
 -- duration

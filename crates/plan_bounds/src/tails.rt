@@ -1,31 +1,12 @@
-ghost use Rattle.std.specs.Prelude.{◌≡◌, ℕ, ◌≤◌, [], All, true};
-ghost use Rattle.sched_base.specs.JobSet.{member};
-ghost use Rattle.rcpsp_model.specs.Project.{IsJob};
+ghost use Rattle.std.specs.Prelude.{◌≤◌, [], All};
 ghost use Rattle.rcpsp_model.specs.Chain.{IsGreatest};
 ghost use Rattle.rcpsp_model.specs.Bounds.{IsTailBound};
 ghost use Rattle.precedence_tree.specs.Active.{IsNamed};
 ghost use Rattle.precedence_tree.specs.Node.{StandsFor, joined};
-ghost use Rattle.plan_bounds.specs.Tails.{IsZeroOrTail, IsAfter, IsFloorOrAfter};
+ghost use Rattle.plan_bounds.specs.Tails.{IsAfter, IsFloorOrAfter};
 
 use precedence_tree::{Active, Node};
 use project_net::Project;
-use sched_base::JobSet;
-
-/// The greatest tail of the jobs of the set, 0 where there is none.
-fn longest_tail(project: &Project, jobs: JobSet) -> u32
-    requires { (j : ℕ) → 1 ≤ j → member jobs j ≡ true → IsJob project.now j }
-    ensures value { IsGreatest (IsZeroOrTail project.now jobs) result }
-    ensures limit { result ≤ 1280000 }
-{
-    let mut longest = 0u32;
-    let mut rest = jobs.0;
-    while rest != 0 {
-        let job = rest.trailing_zeros() as u8 + 1;
-        longest = longest.max(project.tail(job));
-        rest &= rest - 1;
-    }
-    longest
-}
 
 /// When the longest chain after an active job can be done at the earliest.
 fn end_after(project: &Project, active: Active) -> u32
@@ -83,7 +64,7 @@ pub fn tail_bound_of(project: &Project, node: &Node) -> u32
     project.known();
     let older = node.older_active(project);
     let newest = node.newest_active();
-    let ahead = node.last() + longest_tail(project, node.eligible_before(project));
+    let ahead = node.last() + node.longest_tail_before(project);
     let first = node.end().max(ahead);
     let bound = latest_after_newest(project, newest, first);
     latest_after(project, older, bound)

@@ -1,5 +1,6 @@
 use Rattle.std.proofs.Common.{arith}
-use Rattle.plan_bounds.proofs.TailSteps.{tail-one, tail-own}
+use Rattle.precedence_tree.proofs.LongestTails.{tail-one}
+use Rattle.plan_bounds.proofs.TailSteps.{tail-own}
 use Rattle.plan_bounds.proofs.tails.end_after.Goals as goal
 
 pub returns-clause-value : goal.returns-clause-value
