@@ -1,5 +1,5 @@
 -- The rule at the start of a round, and what it gives at its end.
-use Rattle.std.proofs.Common.{◌≡◌, ℕ, zero, suc, ◌+◌, ◌<◌, ◌≤◌, true≢false, List, [], ◌∷◌, length, get_or, take, replicate, min, sym, refl, ap, ◌∙◌, inl, subst, arith}
+use Rattle.std.proofs.Common.{◌≡◌, ℕ, zero, suc, ◌+◌, ◌*◌, ◌<◌, ◌≤◌, true≢false, List, [], ◌∷◌, length, get_or, take, replicate, min, sym, refl, ap, ◌∙◌, inl, subst, arith}
 use Rattle.std.proofs.lemmas.List.{get_or-take, length-take-le, get_or-replicate, length-replicate}
 use mathlib.Core.Option.{some, some-injective, some-ne-none}
 use lib.ListN.{get_elem?}
@@ -45,26 +45,26 @@ abbrev row : RoundTerms → ℕ → List ℕ
 row k more = k.start ∷ replicate more 0
 
 abbrev pub first_words : RoundTerms → ℕ → List ℕ
-first_words k more = take (2 + k.workers) (row k more)
+first_words k more = take (16 + 8 * k.workers) (row k more)
 
 length-row : (k : RoundTerms) (more : ℕ) → length (row k more) ≡ 1 + more
 length-row k more = let zeros : List ℕ = replicate more 0 in let long : length zeros ≡ more = length-replicate more 0 in omega arith
 
-first_words-zero : (k : RoundTerms) (more i : ℕ) → 1 + k.workers ≤ more → i < 1 + k.workers → get_or (first_words k more) (1 + i) 0 ≡ 0
-first_words-zero k more i wide low = get_or-take (2 + k.workers) (row k more) (1 + i) 0 (omega arith) ∙ by_place (1 + i) (omega arith) (omega arith)
+first_words-zero : (k : RoundTerms) (more i : ℕ) → 15 + 8 * k.workers ≤ more → i < 15 + 8 * k.workers → get_or (first_words k more) (1 + i) 0 ≡ 0
+first_words-zero k more i wide low = get_or-take (16 + 8 * k.workers) (row k more) (1 + i) 0 (omega arith) ∙ by_place (1 + i) (omega arith) (omega arith)
   where
-    by_place : (j : ℕ) → 1 ≤ j → j < 2 + k.workers → get_or (row k more) j 0 ≡ 0
+    by_place : (j : ℕ) → 1 ≤ j → j < 16 + 8 * k.workers → get_or (row k more) j 0 ≡ 0
     by_place zero pos l = absurd (omega arith)
     by_place (suc j) pos l = get_or-replicate more j 0 0 (omega arith)
 
-pub opens : (k : RoundTerms) (more : ℕ) → k.quota ≤ 4096 → k.workers ≤ 32 → 1 + k.workers ≤ more → HoldsBetweenSteps k (opening (first_words k more) [] (first_view k))
+pub opens : (k : RoundTerms) (more : ℕ) → k.quota ≤ 4096 → k.workers ≤ 32 → 15 + 8 * k.workers ≤ more → HoldsBetweenSteps k (opening (first_words k more) [] (first_view k))
 opens k more q n wide =
     let ws : List ℕ = first_words k more in let long = length-row k more in
-    let best : get_or ws 0 0 ≡ k.start = get_or-take (2 + k.workers) (row k more) 0 0 (omega arith) in
-    let tickets : get_or ws 1 0 ≡ 0 = first_words-zero k more 0 wide (omega arith) in record {
-      words = length-take-le (2 + k.workers) (row k more) (omega arith);
+    let best : get_or ws 0 0 ≡ k.start = get_or-take (16 + 8 * k.workers) (row k more) 0 0 (omega arith) in
+    let tickets : get_or ws 8 0 ≡ 0 = first_words-zero k more 7 wide (omega arith) in record {
+      words = length-take-le (16 + 8 * k.workers) (row k more) (omega arith);
       round = subst (λ (z : ℕ × ℕ). KeepsRound k z.0 z.1 (first_view k ∷ [])) (λ i. (sym best i, sym tickets i)) (round_opens k q n);
-      counts = KeepsCounts-first k (count_in ws) (λ worker is. let high = is.high in first_words-zero k more worker wide (omega arith));
+      counts = KeepsCounts-first k (count_in ws) (λ worker is. let high = is.high in let at : 8 + 8 * worker ≡ 1 + (7 + 8 * worker) = omega arith in ap (λ (i : ℕ). get_or ws i 0) at ∙ first_words-zero k more (7 + 8 * worker) wide (omega arith));
     }
 
 -- what the last words are, where the closing pass stands for all, and what it has seen
@@ -76,7 +76,7 @@ pub record Ending (b t : ℕ) (v : PassView) : Type 0 where
   pub published : (worker : ℕ) → 1 ≤ worker → worker ≤ v.terms.workers → seen_of worker v ≤ made_by worker v
 
 pub ends : (k : RoundTerms) (id : ℕ) (v : PassView) (ws : List ℕ) (xs : List (Unit {0})) → IsLive v → v.number ≡ 0 → v.passes ≡ 1 + length v.split_off → Final (Seen (HoldsBetweenSteps k) id v) ws xs
-    → Ending (get_or ws 0 0) (get_or ws 1 0) v
+    → Ending (get_or ws 0 0) (get_or ws 8 0) v
 ends k id v ws xs live zeroth all (s, (h, at), words, _, _) =
     let r = h.round in let of = (r.numbers.first id v at live zeroth).all in let mine : total passes_of s.views ≡ v.passes = omega arith in
     let is : v.terms ≡ k = (r.each id v at).terms_of live in let q : v.terms.quota ≡ k.quota = ap (λ (x : RoundTerms). x.quota) is in
@@ -86,7 +86,7 @@ ends k id v ws xs live zeroth all (s, (h, at), words, _, _) =
     let w = total-one passes_of won_of s.views id v at mine (λ j u e p. ((r.each j u e).spent p).0) in
     let f = total-one passes_of refused_of s.views id v at mine (λ j u e p. let l = r.tickets.refused j u e in omega arith) in
     let best = r.best.least_of_all in let seen = r.best.seen id v at live in let drawn = r.tickets.drawn in let won = r.tickets.won in
-    let w0 : get_or s.words 0 0 ≡ get_or ws 0 0 = ap (λ (l : List ℕ). get_or l 0 0) words in let w1 : get_or s.words 1 0 ≡ get_or ws 1 0 = ap (λ (l : List ℕ). get_or l 1 0) words in record {
+    let w0 : get_or s.words 0 0 ≡ get_or ws 0 0 = ap (λ (l : List ℕ). get_or l 0 0) words in let w1 : get_or s.words 8 0 ≡ get_or ws 8 0 = ap (λ (l : List ℕ). get_or l 8 0) words in record {
       best = omega arith;
       seen = omega arith;
       tickets = omega arith;

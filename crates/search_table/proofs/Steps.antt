@@ -1,5 +1,5 @@
 -- Each kind of step keeps the rule.
-use Rattle.std.proofs.Common.{◌≡◌, ◌≢◌, ℕ, ◌+◌, ◌-◌, ◌%◌, ◌^◌, ◌<◌, ◌≤◌, List, get_or, set, min, refl, ap, ⊎_elim, subst, arith}
+use Rattle.std.proofs.Common.{◌≡◌, ◌≢◌, ℕ, ◌+◌, ◌-◌, ◌*◌, ◌/◌, ◌%◌, ◌^◌, ◌<◌, ◌≤◌, List, get_or, set, min, refl, ap, ⊎_elim, subst, arith}
 use mathlib.Core.Option.{none}
 use mathlib.Core.Logic.{dite}
 use native.Mathlib.Decide.{dec_le}
@@ -82,9 +82,9 @@ is_refused k b t vs i v r at live unrefused over = let w : PassView = with_refus
   each = EachView-set (IsOfRound k) vs i w r.each record { terms_of = f.terms_of; spent = f.spent };
 }
 
-pub draws : (k : RoundTerms) (slots id : ℕ) (me : Mine) → IsLive me.0 → me.0.refused ≡ 0 → Allows (HoldsBetweenSteps k) slots id me 1 (λ n. (n + 1) % 2 ^ 64) (Draws (step slots 1 1 0 none) me)
+pub draws : (k : RoundTerms) (slots id : ℕ) (me : Mine) → IsLive me.0 → me.0.refused ≡ 0 → Allows (HoldsBetweenSteps k) slots id me 8 (λ n. (n + 1) % 2 ^ 64) (Draws (step slots 8 1 0 none) me)
 draws k slots id me live unrefused s h _ at _ =
-    let t : ℕ = get_or s.words 1 0 in let b : ℕ = get_or s.words 0 0 in let v : PassView = me.0 in let r = h.round in
+    let t : ℕ = get_or s.words 8 0 in let b : ℕ = get_or s.words 0 0 in let v : PassView = me.0 in let r = h.round in
     let few = few_drawn k.quota k.workers t s.views r.tickets r.numbers.passes r.limits.0 r.limits.1 in let own = own_draws k.quota t s.views id v r.tickets at in
     let q : v.terms.quota ≡ k.quota = ap (λ (x : RoundTerms). x.quota) ((r.each id v at).terms_of live) in
     let next : t + 1 ≡ (t + 1) % 18446744073709551616 = omega arith in let own0 = own.0 in let own1 = own.1 in let own2 = own.2 in
@@ -93,14 +93,14 @@ draws k slots id me live unrefused s h _ at _ =
       w,
       keeps,
       tt,
-      subst (λ (z : ℕ). HoldsBetweenSteps k (stepped s 1 z id me.1 w keeps)) next (tickets_become k s (t + 1) id me.1 w h.words (is_refused k b t s.views id v r at live unrefused over) (KeepsCounts-quiet k.workers (count_in s.words) s.views id v w h.counts at live record { number = refl; passes = refl; split_off = refl } refl refl)),
+      subst (λ (z : ℕ). HoldsBetweenSteps k (stepped s 8 z id me.1 w keeps)) next (tickets_become k s (t + 1) id me.1 w h.words (is_refused k b t s.views id v r at live unrefused over) (KeepsCounts-quiet k.workers (count_in s.words) s.views id v w h.counts at live record { number = refl; passes = refl; split_off = refl } refl refl)),
       record { ticket = λ less. absurd (omega arith); refusal = λ _. refl; own = own2; within = omega arith; slots = refl },
     ))
     (λ under. let w : PassView = with_ticket v in (
       w,
       keeps,
       tt,
-      subst (λ (z : ℕ). HoldsBetweenSteps k (stepped s 1 z id me.1 w keeps)) next (tickets_become k s (t + 1) id me.1 w h.words (wins k b t s.views id v r at live (omega arith)) (KeepsCounts-quiet k.workers (count_in s.words) s.views id v w h.counts at live record { number = refl; passes = refl; split_off = refl } refl refl)),
+      subst (λ (z : ℕ). HoldsBetweenSteps k (stepped s 8 z id me.1 w keeps)) next (tickets_become k s (t + 1) id me.1 w h.words (wins k b t s.views id v r at live (omega arith)) (KeepsCounts-quiet k.workers (count_in s.words) s.views id v w h.counts at live record { number = refl; passes = refl; split_off = refl } refl refl)),
       record { ticket = λ _. refl; refusal = λ more. absurd (omega arith); own = own2; within = omega arith; slots = refl },
     ))
 
@@ -116,29 +116,29 @@ round_stays k b t vs i own seen_counts v r at = let w : PassView = record v { ow
 }
 
 pub publishes : (k : RoundTerms) (slots id : ℕ) (me : Mine) → IsLive me.0 → 1 ≤ me.0.number → me.0.number ≤ me.0.terms.workers → me.0.own < 4294967295
-    → Allows (HoldsBetweenSteps k) slots id me (1 + me.0.number) (λ n. (n + 1) % 2 ^ 64) (Publishes (step slots (1 + me.0.number) 1 0 none) me)
+    → Allows (HoldsBetweenSteps k) slots id me (8 + 8 * me.0.number) (λ n. (n + 1) % 2 ^ 64) (Publishes (step slots (8 + 8 * me.0.number) 1 0 none) me)
 publishes k slots id me live low high room s h _ at _ =
     let v : PassView = me.0 in let q : ℕ = v.number in let n : ℕ = count_in s.words q in let r = h.round in let w : PassView = with_publication v in
     let ws : v.terms.workers ≡ k.workers = ap (λ (x : RoundTerms). x.workers) ((r.each id v at).terms_of live) in
     let is : IsWorker k.workers q = record { low = low; high = omega arith } in
-    let new : List ℕ = set s.words (1 + q) (n + 1) in
+    let new : List ℕ = set s.words (8 + 8 * q) (n + 1) in
     let c = KeepsCounts-publish k.workers (count_in s.words) (count_in new) s.views id v h.counts at live is (count_here k s.words q (n + 1) h.words is) (λ x ne. count_else s.words q (n + 1) x ne) in
     let own = c.1 in let next : n + 1 ≡ (n + 1) % 18446744073709551616 = omega arith in (
       w,
       keeps,
       tt,
-      subst (λ (z : ℕ). HoldsBetweenSteps k (stepped s (1 + q) z id me.1 w keeps)) next
+      subst (λ (z : ℕ). HoldsBetweenSteps k (stepped s (8 + 8 * q) z id me.1 w keeps)) next
           (count_becomes k s (n + 1) id q me.1 w h.words low (round_stays k _ _ s.views id w.own w.seen_counts v r at) c.0),
       record { view = refl; own = own; slots = refl },
     )
 
 pub loads_count : (k : RoundTerms) (slots id worker : ℕ) (me : Mine) → IsLive me.0 → 1 ≤ worker → worker ≤ me.0.terms.workers
-    → Allows (HoldsBetweenSteps k) slots id me (1 + worker) (λ n. n) (LoadsCount (step slots (1 + worker) 0 0 none) me)
+    → Allows (HoldsBetweenSteps k) slots id me (8 + 8 * worker) (λ n. n) (LoadsCount (step slots (8 + 8 * worker) 0 0 none) me)
 loads_count k slots id worker me live low high s h _ at _ =
     let v : PassView = me.0 in let n : ℕ = count_in s.words worker in let r = h.round in let w : PassView = with_count worker n v in
     let ws : v.terms.workers ≡ k.workers = ap (λ (x : RoundTerms). x.workers) ((r.each id v at).terms_of live) in
     let is : IsWorker k.workers worker = record { low = low; high = omega arith } in
-    let c = KeepsCounts-load k.workers (count_in s.words) s.views id worker v h.counts at live is in let same : worker ≡ 1 + worker - 1 = omega arith in (
+    let c = KeepsCounts-load k.workers (count_in s.words) s.views id worker v h.counts at live is in let same : worker ≡ (8 + 8 * worker) / 8 - 1 = omega arith in (
       w,
       keeps,
       tt,

@@ -1,5 +1,5 @@
 -- What contracts see of a pass, and what it keeps.
-use Rattle.std.specs.Prelude.{◌≡◌, ℕ, ◌+◌, ◌≤◌, []}
+use Rattle.std.specs.Prelude.{◌≡◌, ℕ, ◌+◌, ◌*◌, ◌≤◌, []}
 use Rattle.atomic_table.specs.Seated.{TableId}
 use Rattle.search_table.specs.declared.view.PassView.{PassView}
 use Rattle.search_table.specs.declared.view.RoundTerms.{RoundTerms}
@@ -20,5 +20,5 @@ pub record KeepsView (n : ℕ) (k : RoundTerms) (count : ℕ) (table : TableId) 
   pub slots : me.1 ≡ []
   pub live : IsLive me.0
   pub in_range : n ≤ k.workers
-  pub words : table.words ≡ 2 + k.workers
+  pub words : table.words ≡ 16 + 8 * k.workers
   pub none : n ≡ 0 → count ≡ 0

@@ -1,5 +1,5 @@
 -- What a step on a word tells the pass that makes it: the number found, and the view after it. No pass holds a slot.
-use Rattle.std.specs.Prelude.{◌≡◌, ℕ, ◌+◌, ◌-◌, ◌<◌, ◌≤◌}
+use Rattle.std.specs.Prelude.{◌≡◌, ℕ, ◌+◌, ◌-◌, ◌/◌, ◌<◌, ◌≤◌}
 use Rattle.atomic_table.specs.Table.{Me, Step}
 use Rattle.search_table.specs.declared.view.PassView.{PassView}
 use Rattle.search_table.specs.Lists.{least}
@@ -40,8 +40,8 @@ pub record Publishes (step : Step (Unit {0})) (before : Mine) (n : ℕ) (after :
   pub own : n ≡ before.0.own
   pub slots : after.1 ≡ before.1
 
--- the published count of a worker is loaded, of whom the pass had seen no more; its word is one more than its number
+-- the published count of a worker is loaded, of whom the pass had seen no more; its word is eight times one more than its number
 pub record LoadsCount (step : Step (Unit {0})) (before : Mine) (n : ℕ) (after : Mine) : Type 0 where
-  pub view : after.0 ≡ with_count (step.word - 1) n before.0
-  pub no_less : seen_of (step.word - 1) before.0 ≤ n
+  pub view : after.0 ≡ with_count (step.word / 8 - 1) n before.0
+  pub no_less : seen_of (step.word / 8 - 1) before.0 ≤ n
   pub slots : after.1 ≡ before.1

@@ -1,4 +1,4 @@
-ghost use Rattle.std.specs.Prelude.{◌≡◌, ◌≢◌, ℕ, ◌+◌, ◌<◌, ◌≤◌, [], length, min, IfOk};
+ghost use Rattle.std.specs.Prelude.{◌≡◌, ◌≢◌, ℕ, ◌+◌, ◌*◌, ◌<◌, ◌≤◌, [], length, min, IfOk};
 ghost use Rattle.atomic_table.specs.Seated.{TableId};
 ghost use Rattle.search_table.specs.Lists.{Lacks, least};
 ghost use Rattle.search_table.specs.Counts.{made_by, seen_of};
@@ -22,10 +22,11 @@ type Words = Table<(), PassView, RoundTerms, RoundRule, Global>;
 const BEST: usize = 0;
 
 /// The place of the tickets.
-const TICKETS: usize = 1;
+const TICKETS: usize = 8;
 
-/// How many words there are at most: two, and one for each worker.
-const MOST_WORDS: usize = 34;
+/// How many words there are at most: eight for each that changes, which are the best, the tickets and a count for each
+/// worker, so that no two of them lie within 64 bytes and a step on one doesn't slow those on others.
+const MOST_WORDS: usize = 272;
 
 /// The best end, the tickets and the published counts of one round. Its workers share it by reference.
 #[derive(Drop)]
@@ -86,7 +87,7 @@ impl RoundTable {
         };
         let mut first = [0; MOST_WORDS];
         first[BEST] = best;
-        let count = 2 + workers as usize;
+        let count = 16 + 8 * workers as usize;
         let (words, seat) = Words::of_words(alloc, &first[..count], &terms)?;
         let pass = Pass {
             number: 0,
@@ -238,9 +239,9 @@ impl RoundTable {
 
 /// The place of a worker's published count among the words.
 fn count_place(worker: u32) -> usize
-    ensures { result ≡ 1 + worker }
+    ensures { result ≡ 8 + 8 * worker }
 {
-    1 + worker as usize
+    8 + 8 * worker as usize
 }
 
 /// The seat of a worker's pass; the caller picks the worker for the proof.

@@ -10,7 +10,7 @@ use Rattle.search_table.proofs.table.RoundTable.close_with.Goals as goal
 abbrev words : goal.After-free → List ℕ
 words c = slots_items c.close_with-closed.result.words
 
-ending : (c : goal.After-free) → Ending (get_or (words c) 0 0) (get_or (words c) 1 0) c.args.pass.view
+ending : (c : goal.After-free) → Ending (get_or (words c) 0 0) (get_or (words c) 8 0) c.args.pass.view
 ending c =
     let k = c.self.inside.words.shared.key in let id = c.into_seat.result.id in let xs = slots_items c.close_with-closed.result.slots in
     let is : c.into_seat.result.me.0 ≡ c.args.pass.view = ap (λ (m : Mine). m.0) c.into_seat.ensures.view in
@@ -24,10 +24,10 @@ pub returns-clause-seen : goal.returns-clause-seen
 returns-clause-seen c = let e = word_is (words c) 0 _ c.word-best.ensures in let l = (ending c).seen in omega arith
 
 pub returns-clause-tickets : goal.returns-clause-tickets
-returns-clause-tickets c = sym (word_is (words c) 1 _ c.word-tickets.ensures) ∙ (ending c).tickets
+returns-clause-tickets c = sym (word_is (words c) 8 _ c.word-tickets.ensures) ∙ (ending c).tickets
 
 pub returns-clause-won : goal.returns-clause-won
-returns-clause-won c = let e = word_is (words c) 1 _ c.word-tickets.ensures in let w = (ending c).won in omega arith
+returns-clause-won c = let e = word_is (words c) 8 _ c.word-tickets.ensures in let w = (ending c).won in omega arith
 
 pub returns-clause-spent : goal.returns-clause-spent
 returns-clause-spent c = λ refused. let t = (ending c).tickets in let w = (ending c).won in omega arith

@@ -1,4 +1,4 @@
-use Rattle.std.proofs.Common.{rules, ◌≡◌, ℕ, ◌+◌, ◌%◌, ap, subst, arith}
+use Rattle.std.proofs.Common.{rules, ◌≡◌, ℕ, ◌+◌, ◌*◌, ◌%◌, ap, subst, arith}
 use mathlib.Core.Option.{none}
 use Rattle.atomic_table.specs.Table.{Allows, step}
 use Rattle.search_table.specs.declared.view.PassView.{PassView}
@@ -17,7 +17,7 @@ fetch_add-before-requires c =
     let is : me.0 ≡ c.args.pass.now.view = ap (λ (p : PassState). p.view) c.pass.view_is in
     let same_number : me.0.number ≡ c.args.pass.now.view.number = ap (λ (v : PassView). v.number) is in let same_own : me.0.own ≡ c.args.pass.now.view.own = ap (λ (v : PassView). v.own) is in
     let low = c.requires.worker in let room = c.requires.room in let at = c.count_place-place.ensures in
-    let place : 1 + me.0.number ≡ c.count_place-place.result = omega arith in
+    let place : 8 + 8 * me.0.number ≡ c.count_place-place.result = omega arith in
     let table : c.pass.inside.seat.table_id ≡ c.self.inside.words.shared.table_id = search rules in (
       table,
       search rules,
