@@ -27,7 +27,7 @@ use Rattle.precedence_tree.proofs.Parts.{newest-all, older-all, active-few, olde
 use Rattle.cutset_store.specs.declared.facts.RecordFacts.{RecordFacts}
 use Rattle.cutset_store.specs.declared.facts.NodeFacts.{NodeFacts}
 use Rattle.cutset_store.specs.Facts.{AreOfRecord, AreOfFront}
-use Rattle.cutset_store.specs.Parts.{HasFinish, InTime, HoldsUpNone, TakesNoMoreOf, TakesNoMore, Beats, AreJobs, AreComparable}
+use Rattle.cutset_store.specs.Parts.{HasFinish, InTime, HoldsUpNone, TakesNoMoreOf, TakesNoMore, Beats, AreJobs, AreOrderly, AreComparable}
 
 -- Loads.
 
@@ -283,15 +283,29 @@ beats-exactly P acyclic b F x y base f of_x of_y jobs = (
     ys : List Active
     ys = joined y.newest y.older.now
 
--- both are of the project
-pub comparable : (P : Project) → IsWithinLimits P → (b : Base) (F : List Entry) (x : RecordFacts) (y : NodeFacts) → IsBaseOf P b → IsFront P F → AreOfRecord P b x → AreOfFront P F y → AreComparable P x y
-comparable P limits b F x y base f of_x of_y = record {
+-- the active jobs of a front can be compared
+orderly : (P : Project) → IsWithinLimits P → (b : Base) → IsBaseOf P b → AreOrderly P b.active
+orderly P limits b base = record {
+  jobs = record { named = active-named P b.front b.active base.front base.active; few = active-few P b.front b.active limits base.front base.active };
+  order = base.order;
+}
+
+-- with those of another
+pub comparable-orderly : (P : Project) → IsWithinLimits P → (b : Base) (F : List Entry) (x : RecordFacts) (y : NodeFacts) → AreOrderly P x.active.now → IsFront P F → AreOfRecord P b x → AreOfFront P F y → AreComparable P x y
+comparable-orderly P limits b F x y are f of_x of_y = record {
   wide = of_x.wide;
-  active = subst (AreJobs P) (sym of_x.active) (record { named = active-named P b.front b.active base.front base.active; few = active-few P b.front b.active limits base.front base.active });
-  order = subst AreByFinish (sym of_x.active) base.order;
+  active = are.jobs;
+  order = are.order;
   newest = newest-all (IsNamed P) y.newest y.older.now (active-named P F (joined y.newest y.older.now) f of_y.active);
   older = record {
     named = older-all (IsNamed P) y.newest y.older.now (active-named P F (joined y.newest y.older.now) f of_y.active);
     few = older-few y.newest y.older.now (active-few P F (joined y.newest y.older.now) limits f of_y.active);
   };
 }
+
+-- and so can those of a record
+pub orderly-record : (P : Project) → IsWithinLimits P → (b : Base) (x : RecordFacts) → IsBaseOf P b → AreOfRecord P b x → AreOrderly P x.active.now
+orderly-record P limits b x base of_x = subst (AreOrderly P) (sym of_x.active) (orderly P limits b base)
+
+pub comparable : (P : Project) → IsWithinLimits P → (b : Base) (F : List Entry) (x : RecordFacts) (y : NodeFacts) → IsBaseOf P b → IsFront P F → AreOfRecord P b x → AreOfFront P F y → AreComparable P x y
+comparable P limits b F x y base f of_x of_y = comparable-orderly P limits b F x y (orderly-record P limits b x base of_x) f of_x of_y

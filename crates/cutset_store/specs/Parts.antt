@@ -45,6 +45,11 @@ pub record AreJobs (P : Project) (xs : List Active) : Type 0 where
   pub named : All (IsNamed P) xs
   pub few : length xs ≤ 128
 
+-- they stand in the order of their finishes too
+pub record AreOrderly (P : Project) (xs : List Active) : Type 0 where
+  pub jobs : AreJobs P xs
+  pub order : AreByFinish xs
+
 -- both are of the project
 pub record AreComparable (P : Project) (a : RecordFacts) (b : NodeFacts) : Type 0 where
   pub wide : nonrenewables P ≤ length a.used.now

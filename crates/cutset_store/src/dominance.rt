@@ -10,6 +10,7 @@ ghost use Rattle.cutset_store.specs.Parts.{NeedsNoMore, AreComparable, Beats};
 
 use crate::facts::{NodeFacts, RecordFacts, facts_of_node, facts_of_record};
 use crate::finishes::holds_up_none;
+use crate::orderly::are_orderly;
 use crate::record::CutRecord;
 use crate::usage::takes_no_more;
 use precedence_tree::Node;
@@ -53,17 +54,33 @@ pub fn beats(project: &Project, a: &RecordFacts<'_>, b: &NodeFacts<'_>) -> bool
 
 /// Whether the record has the jobs of the node.
 fn has_its_jobs(project: &Project, a: &CutRecord, b: &Node) -> bool
-    requires record { IsBaseOf project.now a.now }
-    requires node { StandsFor project.now b.now }
-    ensures { IsTrue result ↔ ((j : ℕ) → has_job a.now.front j ≡ has_job b.now.front j) }
+    requires { StandsFor project.now b.now }
+    ensures { IsBaseOf project.now a.now → IsTrue result ↔ ((j : ℕ) → has_job a.now.front j ≡ has_job b.now.front j) }
 {
     let _of_any = project;
     a.base().placed == b.placed()
 }
 
-/// Whether the record's front dominates that of the node (after Demeulemeester and Herroelen 1992).
+/// Whether the record's front dominates that of the node, where the record is one of the project, which needn't be known.
 ///
 /// What costs least is compared first: the sets, the last starts and the ends, then needs, finishes and usages.
+pub fn would_dominate(project: &Project, a: &CutRecord, b: &Node) -> bool
+    requires { StandsFor project.now b.now }
+    ensures { IsBaseOf project.now a.now → IsTrue result ↔ Dominates project.now a.now.front b.now.front }
+{
+    project.known();
+    if !has_its_jobs(project, a, b) {
+        return false;
+    }
+    let record = facts_of_record(project, a);
+    if !are_orderly(project, record.active) {
+        return false;
+    }
+    let node = facts_of_node(project, b);
+    beats(project, &record, &node)
+}
+
+/// Whether the record's front dominates that of the node (after Demeulemeester and Herroelen 1992).
 pub fn dominates(project: &Project, a: &CutRecord, b: &Node) -> bool
     requires record { IsBaseOf project.now a.now }
     requires node { StandsFor project.now b.now }
@@ -74,10 +91,5 @@ pub fn dominates(project: &Project, a: &CutRecord, b: &Node) -> bool
 {
     project.known();
     dominance();
-    if !has_its_jobs(project, a, b) {
-        return false;
-    }
-    let record = facts_of_record(project, a);
-    let node = facts_of_node(project, b);
-    beats(project, &record, &node)
+    would_dominate(project, a, b)
 }

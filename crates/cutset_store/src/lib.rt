@@ -8,12 +8,13 @@ mod finishes;
 mod index;
 mod judging;
 mod line;
+mod orderly;
 mod record;
 mod row;
 mod table;
 mod usage;
 
-pub use dominance::dominates;
+pub use dominance::{dominates, would_dominate};
 pub use index::{Found, Index};
 pub use record::CutRecord;
 pub use table::SetPlace;
