@@ -4,7 +4,7 @@ ghost use Rattle.precedence_tree.specs.Base.{IsBaseOf};
 ghost use Rattle.precedence_tree.specs.Node.{StandsFor};
 ghost use Rattle.tree_worker.specs.Live.{IsLiveRecord, Listens, IsCited};
 
-use cutset_store::{CutRecord, dominates};
+use cutset_store::{CutRecord, would_dominate};
 use precedence_tree::Node;
 use project_net::Project;
 use search_table::{Pass, RoundTable};
@@ -88,7 +88,8 @@ fn is_sound(
 
 /// Reads a live record once more by its place, and gives the note of that read where its front dominates that of the node.
 ///
-/// It is looked at only where its last start and its end are no later than the node's.
+/// It is looked at only where its last start and its end are no later than the node's, and judged only where it would
+/// dominate: that goes over its front entry by entry, and few of the records that are looked at close a node.
 pub fn citation<C: Cells<CutRecord>>(
     alloc: Global,
     project: &Project,
@@ -115,10 +116,10 @@ pub fn citation<C: Cells<CutRecord>>(
     }
     match rows.read(table, pass, cells, live.worker, live.place) {
         Look::Found(shown, mut note) => {
-            if !is_sound(alloc, project, live, shown, &mut note) {
+            if !would_dominate(project, shown, node) {
                 return None;
             }
-            if !dominates(project, shown, node) {
+            if !is_sound(alloc, project, live, shown, &mut note) {
                 return None;
             }
             Some(LiveNote {
