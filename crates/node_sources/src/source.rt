@@ -72,8 +72,8 @@ impl NodeSource {
         Some(of_deque(node))
     }
 
-    /// Puts a node with a place of the worker's own: into its deque, or before the nodes that it has by itself, where the deque
-    /// can't grow.
+    /// Puts a node with a place of the worker's own: into its deque, or before the nodes that it has by itself, where there is no
+    /// other worker or the deque can't grow.
     pub fn put(&mut self, place: u32, node: Node) -> Result<(), NoMemory>
         requires node { (P : ProjectValue) × IsSourceOf P self.old × StandsFor P node }
         requires place { IsOwnPlace self.old.number place }
@@ -81,12 +81,12 @@ impl NodeSource {
         ensures put { OnOk result (Puts self.old place node self.new) }
         ensures kept { OnErr result (self.new ≡ self.old) }
     {
+        if self.reaches.is_empty() {
+            return self.put_back(WaitingNode { place, node });
+        }
         match self.deque.push(place, node) {
             Ok(()) => Ok(()),
-            Err(node) => {
-                self.list.push_front(WaitingNode { place, node })?;
-                Ok(())
-            }
+            Err(node) => self.put_back(WaitingNode { place, node }),
         }
     }
 
