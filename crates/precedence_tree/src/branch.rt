@@ -4,6 +4,7 @@ ghost use Rattle.rcpsp_model.specs.declared.parts.Child.TheVariants.{Placed};
 ghost use Rattle.rcpsp_model.specs.declared.parts.Shut.{Shut as Why};
 ghost use Rattle.rcpsp_model.specs.Project.{IsMode};
 ghost use Rattle.rcpsp_model.specs.Tree.{IsEligible, IsShut, IsChild, choices, choices_of, AreChildrenBy, AreChildren};
+ghost use Rattle.rcpsp_model.specs.Bounds.{ready as ready_of};
 ghost use Rattle.rcpsp_model.specs.Laws.{Exchanges};
 ghost use Rattle.precedence_tree.specs.Base.{IsBaseOf};
 ghost use Rattle.precedence_tree.specs.Node.{StandsFor};
@@ -13,7 +14,7 @@ use crate::base::Expansion;
 use crate::causes::cause_to_shut;
 use crate::expanding::expand;
 use crate::node::{Node, step};
-use crate::starts::earliest;
+use crate::starts::{earliest, ready};
 use project_net::Project;
 use rcpsp_model::Child;
 use sched_base::{JobSet, List, NoMemory};
@@ -30,23 +31,48 @@ pub fn eligible(project: &Project, node: &Node) -> JobSet
     node.eligible(project)
 }
 
-/// The child by an eligible job in a mode that isn't shut: it takes no memory of its own.
+/// The child by an eligible job in a mode that isn't shut, by when the job is ready: it takes no memory of its own.
 fn placed_child(
     project: &Project,
     expansion: &Expansion,
     job: u8,
     mode: u8,
+    ready: u32,
 ) -> Result<Node, NoMemory>
     requires base { IsBaseOf project.now expansion.now }
     requires eligible { IsEligible project.now expansion.now.front job }
     requires mode { IsMode project.now job mode }
     requires open { IsOpen project.now expansion.now.front job mode }
+    requires ready { ready ≡ ready_of project.now expansion.now.front job }
     ensures child { IfOk result (λ n. IsChild project.now expansion.now.front job mode (Placed n.front)) }
     ensures stands { IfOk result (StandsFor project.now) }
 {
-    let start = earliest(project, expansion.base(), job, mode);
+    let start = earliest(project, expansion.base(), job, mode, ready);
     let next = step(project, expansion, job, mode, start)?;
     Ok(next)
+}
+
+/// The child of an expanded front by an eligible job in one of its modes, by when the job is ready.
+fn child_by(
+    project: &Project,
+    expansion: &Expansion,
+    job: u8,
+    mode: u8,
+    ready: u32,
+) -> Result<Child<Node>, NoMemory>
+    requires base { IsBaseOf project.now expansion.now }
+    requires eligible { IsEligible project.now expansion.now.front job }
+    requires mode { IsMode project.now job mode }
+    requires ready { ready ≡ ready_of project.now expansion.now.front job }
+    ensures child { IfOk result (λ c. IsChild project.now expansion.now.front job mode (child_front c)) }
+    ensures stands { IfOk result (StandsWherePlaced project.now) }
+    ensures shut { (why : Why) → IsShut project.now expansion.now.front job mode why → IsOk result }
+{
+    if let Some(why) = cause_to_shut(project, &expansion.base().needs, job, mode) {
+        return Ok(Child::Shut { job, mode, why });
+    }
+    let next = placed_child(project, expansion, job, mode, ready)?;
+    Ok(Child::Placed(next))
 }
 
 /// The child of an expanded front by an eligible job in one of its modes; one that is shut takes no memory.
@@ -63,11 +89,8 @@ pub fn child_of(
     ensures stands { IfOk result (StandsWherePlaced project.now) }
     ensures shut { (why : Why) → IsShut project.now expansion.now.front job mode why → IsOk result }
 {
-    if let Some(why) = cause_to_shut(project, &expansion.base().needs, job, mode) {
-        return Ok(Child::Shut { job, mode, why });
-    }
-    let next = placed_child(project, expansion, job, mode)?;
-    Ok(Child::Placed(next))
+    let ready = ready(project, expansion.base(), job);
+    child_by(project, expansion, job, mode, ready)
 }
 
 /// Appends the children by the modes of an eligible job.
@@ -83,8 +106,9 @@ fn push_by_mode(
     ensures children { OnOk result (Appends (AreChildrenBy project.now expansion.now.front (choices_of project.now job)) (child_fronts all.old.items) (child_fronts all.new.items)) }
     ensures stand { OnOk result (All (StandsWherePlaced project.now) all.new.items) }
 {
+    let ready = ready(project, expansion.base(), job);
     for done in 0..project.modes(job) {
-        let next = child_of(project, expansion, job, done + 1)?;
+        let next = child_by(project, expansion, job, done + 1, ready)?;
         all.push(next)?;
     }
     Ok(())
@@ -151,7 +175,8 @@ pub fn child(
         return Ok(Child::Shut { job, mode, why });
     }
     let expansion = expand(alloc, project, node)?;
-    let next = placed_child(project, &expansion, job, mode)?;
+    let ready = ready(project, expansion.base(), job);
+    let next = placed_child(project, &expansion, job, mode, ready)?;
     Ok(Child::Placed(next))
 }
 

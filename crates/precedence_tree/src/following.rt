@@ -9,7 +9,7 @@ use crate::base::{Base, Expansion};
 use crate::expanding::expand;
 use crate::needs::Needs;
 use crate::node::{Node, step};
-use crate::starts::earliest;
+use crate::starts::{earliest, ready};
 use project_net::Project;
 use rcpsp_model::Entry;
 use sched_base::{Job, NoMemory};
@@ -53,7 +53,8 @@ fn is_earliest(project: &Project, base: &Base, entry: Entry) -> bool
     if project.lacking(entry.job, entry.mode).is_some() {
         return false;
     }
-    earliest(project, base, entry.job, entry.mode) == entry.start
+    let ready = ready(project, base, entry.job);
+    earliest(project, base, entry.job, entry.mode, ready) == entry.start
 }
 
 /// The next node, where the entry may follow an expanded front.

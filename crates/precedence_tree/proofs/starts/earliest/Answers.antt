@@ -5,7 +5,7 @@ use Rattle.precedence_tree.proofs.starts.earliest.Goals as goal
 
 pub returns-then-duration-eq0 : goal.returns-then-duration-eq0
 returns-then-duration-eq0 c =
-    start-ready c.args.project.now c.args.base.now.front c.args.job c.args.mode c.ready.result (let value = c.duration.ensures.value in let none = c.if-duration-eq0.true in omega arith) c.ready.ensures
+    start-ready c.args.project.now c.args.base.now.front c.args.job c.args.mode c.args.ready (let value = c.duration.ensures.value in let none = c.if-duration-eq0.true in omega arith) c.requires.ready
 
 pub loop-start-init : goal.loop-start-init
 loop-start-init c =
