@@ -3,6 +3,7 @@ pub mod Sums
 pub mod PassedPlaces
 pub mod WalkSpans
 pub mod PlaceNumbers
+pub mod EveryTable
 pub mod RowLines
 pub mod FilledRows
 pub mod StayingRows
