@@ -11,6 +11,7 @@ use Rattle.rcpsp_model.specs.Bounds.{IsBudgetGap}
 use Rattle.rcpsp_model.specs.Claim.{HasDuration}
 use Rattle.rcpsp_model.proofs.Lists.{In, In-from_Contains}
 use Rattle.rcpsp_model.proofs.Choices.{map-In}
+use Rattle.proof_log.specs.declared.report.Report.{Report}
 use Rattle.proof_log.specs.Report.{duration_of}
 use Rattle.log_truth.specs.Fates.{says_late, says_shut, late_leaf, late_left, expands}
 use Rattle.log_truth.specs.Holds.{IsLimit, IsLeftNumber}
@@ -26,6 +27,7 @@ use Rattle.search_log.specs.Told.{origin_at, told_origin, Tells, TellsAll, IsLef
 use Rattle.search_log.specs.Lean.{Seen, seen_row, seen_rows, expands_line, end_number, IsEnd, of_first, of_leaf, IsLean, IsLeanLog}
 use Rattle.search_log.proofs.Sums.{Each-In}
 use Rattle.search_log.proofs.PassedPlaces.{IsPlace, passes-all}
+use Rattle.search_log.proofs.EveryTable.{told-log}
 use Rattle.search_log.proofs.GrownTables.{gap_law}
 use Rattle.search_log.proofs.ToldLogs.{whole_law, count_law, line_at}
 use Rattle.search_log.proofs.VerdictChanges.{report_law}
@@ -36,7 +38,7 @@ use Rattle.search_rounds.specs.declared.found.Found.{Found}
 use Rattle.search_rounds.specs.declared.found.Ended.{Ended}
 use Rattle.search_rounds.specs.Closing.{IsLowered, IsCloseOf, after_last}
 use Rattle.search_rounds.specs.Going.{Goes}
-use Rattle.search_rounds.specs.Found.{IsEnded, report_of, IsFound}
+use Rattle.search_rounds.specs.Found.{IsEnded, report_of, IsFound, IsUntold}
 use Rattle.search_rounds.proofs.FilledSums.{length-fill_rows, length-fill_origins}
 use Rattle.search_rounds.proofs.ClosingFills.{Closes, closed-stands, no_later, lowered-falls}
 use Rattle.search_rounds.proofs.EndedTables.{lean-closed, expanded-closed_rows, cites-closed, some-left, late-left, narrow-left, SeenAt, seen-at, get-seen}
@@ -155,6 +157,14 @@ tells P w nodes first lower e f small is least told verdict plan starts =
           let many = ap length starts in
           elim (is.late p inside (omega arith)) [ inl all ↦ inl (omega arith) | inr gap ↦ inr gap ];
     }
+
+-- without its log: the one that the table would tell
+pub tells_none : (P : Project) (w nodes : ℕ) (first lower : Option ℕ) (e : Ended) (report : Report) → nodes ≤ 100000 → IsEnded P w nodes first e → IsLeastLeft e.table.rows lower →
+    report ≡ record { verdict = verdict_of e.best.end lower; best = e.best.plan; log = None } → IsUntold P w first nodes report
+tells_none P w nodes first lower e report small is least same =
+    let log = told-log e.table.rows e.table.origins (whole_law P (closing e.best.end) e.table.rows is.tree is.stands) in
+    let f : Found = record { verdict = verdict_of e.best.end lower; best = e.best.plan; log = log.0; origins = log.1; starts = e.starts } in
+    record { found = f; is_found = tells P w nodes first lower e f small is least log.2 refl refl refl; untold = same }
 
 -- The root has a budget gap.
 

@@ -21,7 +21,8 @@ abbrev pub RootHasGap : Project → Type 0
 RootHasGap P = (l : ℕ) × IsBudgetGap P [] l
 
 -- A table in which no node waits. A row was left only where so many nodes as are allowed were expanded, and so it is where
--- a row was closed after the last round, unless the root has a gap
+-- a row was closed after the last round, unless the root has a gap. All that a search promises follows from this: `IsFound`, of
+-- what is told with its log, and `IsUntold`, of the report without
 pub record IsEnded (P : Project) (workers nodes : ℕ) (first : Option ℕ) (e : Ended) : Type 0 where
   pub tree : List TreeNode
   pub stands : Stands P (closing e.best.end) e.table.rows tree [] []
@@ -55,8 +56,22 @@ pub record IsFound (P : Project) (workers : ℕ) (first : Option ℕ) (nodes : �
   pub limit : IsLimit f.verdict → expanded_in f.log ≡ nodes
   pub late : (origin : Origin) → Contains f.origins origin → length f.starts < origin.round → (expanded_in f.log ≡ nodes) ⊎ RootHasGap P
 
--- The same, where the search began with the first plan
-pub record IsFoundFromFirst (P : Project) (workers nodes : ℕ) (f : Found) : Type 0 where
+-- whichever search ended so, where at most 100,000 nodes are allowed, this is what it found
+abbrev pub IsFoundBy : Ended → Found → Type 0
+IsFoundBy e f = (P : Project) (workers nodes : ℕ) (first : Option ℕ) → nodes ≤ 100000 → IsEnded P workers nodes first e → IsFound P workers first nodes f
+
+-- the report of what such a search found, without its log: there is a log that could be told
+pub record IsUntold (P : Project) (workers : ℕ) (first : Option ℕ) (nodes : ℕ) (report : Report) : Type 0 where
+  pub found : Found
+  pub is_found : IsFound P workers first nodes found
+  pub untold : report ≡ record { verdict = found.verdict; best = found.best; log = None }
+
+-- some search ended so
+abbrev pub HasEnded : Ended → Type 0
+HasEnded e = (P : Project) × (workers : ℕ) × (nodes : ℕ) × (first : Option ℕ) × IsEnded P workers nodes first e
+
+-- a search ended so that began with the first plan
+pub record IsEndedFromFirst (P : Project) (workers nodes : ℕ) (e : Ended) : Type 0 where
   pub plan : Option (List Placing)
   pub first : IsFirstPlan P plan
-  pub found : IsFound P workers (end_of_plan P plan) nodes f
+  pub ended : IsEnded P workers nodes (end_of_plan P plan) e

@@ -4,13 +4,13 @@ ghost use Rattle.rcpsp_model.specs.Project.{Project as ProjectValue};
 ghost use Rattle.rcpsp_model.specs.Bounds.{IsBudgetGap};
 ghost use Rattle.rcpsp_model.specs.Claim.{HasDuration};
 ghost use Rattle.search_rounds.specs.Going.{Goes};
-ghost use Rattle.search_rounds.specs.Found.{IsEnded, IsFound};
+ghost use Rattle.search_rounds.specs.Found.{IsEnded, HasEnded, IsFoundBy, IsUntold};
 
 use crate::best::Best;
 use crate::closing::{closes, lowered};
 use crate::going::Search;
 use project_net::{Project, Schedule};
-use proof_log::{Log, Verdict};
+use proof_log::{Log, Report, Verdict};
 use rcpsp_model::Shut;
 use sched_base::{List, NoMemory};
 use search_log::{Origin, Row, RowFate, Table, fill, least_left, log_of, verdict};
@@ -30,46 +30,68 @@ pub struct Found {
     pub starts: List<u32>,
 }
 
-/// A search in which no node waits.
+/// A search in which no node waits. Its log isn't told yet: [`Ended::tell`] gives what it found with the log, and
+/// [`Ended::without_log`] its report alone.
 #[derive(Drop)]
 pub struct Ended {
+    /// The rows of all rounds, each closed.
     pub table: Table,
+    /// The best at the start of each round, in periods; 4,294,967,295 where there was none.
     pub starts: List<u32>,
+    /// The least end, and a schedule that ends at it.
     pub best: Best,
 }
 
-// Closes what is left.
-fn close(alloc: Global, project: &Project, nodes: u32, going: Search) -> Result<Ended, NoMemory>
-    requires few { nodes ≤ 100000 }
-    requires goes { (workers : ℕ) × Goes project.now workers nodes going }
-    requires ended { (going.frontier ≡ []) ⊎ (nodes ≤ going.used) }
-    ensures { IfOk result (λ e. (workers : ℕ) → Goes project.now workers nodes going → IsEnded project.now workers nodes going.first e) }
-{
-    let Search {
-        mut table,
-        frontier,
-        records: _,
-        first: _,
-        starts,
-        best,
-        used: _,
-    } = going;
-    project.known();
-    let number = starts.len() as u32 + 1;
-    let left = frontier.as_slice();
-    let best = lowered(alloc, project, left, best)?;
-    let fills = closes(alloc, project, left, best.end, number)?;
-    fill(&mut table, fills.as_slice());
-    Ok(Ended {
-        table,
-        starts,
-        best,
-    })
+impl Search {
+    /// The end of a search that runs no more rounds: what waits is closed.
+    ///
+    /// # Errors
+    ///
+    /// [`NoMemory`] where the fates of what waits can't be had.
+    pub fn finish(self, alloc: Global, project: &Project, nodes: u32) -> Result<Ended, NoMemory>
+        requires few { nodes ≤ 100000 }
+        requires goes { (workers : ℕ) × Goes project.now workers nodes self }
+        requires ended { (self.frontier ≡ []) ⊎ (nodes ≤ self.used) }
+        ensures { (workers : ℕ) → Goes project.now workers nodes self → IfOk result (IsEnded project.now workers nodes self.first) }
+    {
+        let Search {
+            mut table,
+            frontier,
+            records: _,
+            first: _,
+            starts,
+            best,
+            used: _,
+        } = self;
+        project.known();
+        let number = starts.len() as u32 + 1;
+        let left = frontier.as_slice();
+        let best = lowered(alloc, project, left, best)?;
+        let fills = closes(alloc, project, left, best.end, number)?;
+        fill(&mut table, fills.as_slice());
+        Ok(Ended {
+            table,
+            starts,
+            best,
+        })
+    }
 }
 
-// The search of a project whose root has a budget gap.
-fn shut_root(alloc: Global, resource: u8, best: Best) -> Result<Ended, NoMemory>
-    ensures { IfOk result (λ e. (P : ProjectValue) (workers nodes : ℕ) → IsBudgetGap P [] resource → HasDuration P best.end best.plan → IfSome best.end (λ end. end ≤ 1290000) → IsEnded P workers nodes best.end e) }
+/// The search of a project whose root has a gap in this budget: a table of one row.
+///
+/// # Errors
+///
+/// [`NoMemory`] where the row can't be had.
+pub fn found_gap(
+    alloc: Global,
+    project: &Project,
+    resource: u8,
+    best: Best,
+) -> Result<Ended, NoMemory>
+    requires gap { IsBudgetGap project.now [] resource }
+    requires best { HasDuration project.now best.end best.plan }
+    requires soon { IfSome best.end (λ end. end ≤ 1290000) }
+    ensures { (workers nodes : ℕ) → IfOk result (IsEnded project.now workers nodes best.end) }
 {
     let mut table = Table::new(alloc);
     table.push(
@@ -92,65 +114,47 @@ fn shut_root(alloc: Global, resource: u8, best: Best) -> Result<Ended, NoMemory>
     })
 }
 
-// Tells the log.
-fn tell(alloc: Global, nodes: u32, ended: Ended) -> Result<Found, NoMemory>
-    requires few { nodes ≤ 100000 }
-    requires ended { (P : ProjectValue) × (workers : ℕ) × (first : Option ℕ) × IsEnded P workers nodes first ended }
-    ensures { IfOk result (λ f. (P : ProjectValue) (workers : ℕ) (first : Option ℕ) → IsEnded P workers nodes first ended → IsFound P workers first nodes f) }
-{
-    let Ended {
-        table,
-        starts,
-        best,
-    } = ended;
-    let lower = least_left(&table.rows);
-    let told = log_of(alloc, table)?;
-    Ok(Found {
-        verdict: verdict(best.end, lower),
-        best: best.plan,
-        log: told.log,
-        origins: told.origins,
-        starts,
-    })
-}
-
-impl Search {
-    /// What a search found that runs no more rounds: what waits is closed, and the log is told.
+impl Ended {
+    /// What was found, with its log and the origin of each line.
     ///
     /// # Errors
     ///
-    /// [`NoMemory`] where the rows that close what waits, or the log, can't be had.
-    pub fn finish(self, alloc: Global, project: &Project, nodes: u32) -> Result<Found, NoMemory>
-        requires few { nodes ≤ 100000 }
-        requires goes { (workers : ℕ) × Goes project.now workers nodes self }
-        requires ended { (self.frontier ≡ []) ⊎ (nodes ≤ self.used) }
-        ensures { (workers : ℕ) → Goes project.now workers nodes self → IfOk result (IsFound project.now workers self.first nodes) }
+    /// [`NoMemory`] where the log can't be had.
+    pub fn tell(self, alloc: Global) -> Result<Found, NoMemory>
+        requires { HasEnded self }
+        ensures { IfOk result (IsFoundBy self) }
     {
-        let ended = close(alloc, project, nodes, self)?;
-        let found = tell(alloc, nodes, ended)?;
-        Ok(found)
+        let Ended {
+            table,
+            starts,
+            best,
+        } = self;
+        let lower = least_left(&table.rows);
+        let told = log_of(alloc, table)?;
+        Ok(Found {
+            verdict: verdict(best.end, lower),
+            best: best.plan,
+            log: told.log,
+            origins: told.origins,
+            starts,
+        })
     }
-}
 
-/// What the search of a project found whose root has a gap in this budget: a log of one line.
-///
-/// # Errors
-///
-/// [`NoMemory`] where the line can't be had.
-pub fn found_gap(
-    alloc: Global,
-    project: &Project,
-    nodes: u32,
-    resource: u8,
-    best: Best,
-) -> Result<Found, NoMemory>
-    requires few { nodes ≤ 100000 }
-    requires gap { IsBudgetGap project.now [] resource }
-    requires best { HasDuration project.now best.end best.plan }
-    requires soon { IfSome best.end (λ end. end ≤ 1290000) }
-    ensures { (workers : ℕ) → IfOk result (IsFound project.now workers best.end nodes) }
-{
-    let ended = shut_root(alloc, resource, best)?;
-    let found = tell(alloc, nodes, ended)?;
-    Ok(found)
+    /// The report of what was found, without its log. It takes no memory.
+    pub fn without_log(self) -> Report
+        ensures { (P : ProjectValue) (workers nodes : ℕ) (first : Option ℕ) → nodes ≤ 100000 → IsEnded P workers nodes first self → IsUntold P workers first nodes result }
+    {
+        let Ended {
+            table,
+            starts: _,
+            best,
+        } = self;
+        let Best { end, plan } = best;
+        let lower = least_left(&table.rows);
+        Report {
+            verdict: verdict(end, lower),
+            best: plan,
+            log: None,
+        }
+    }
 }
