@@ -4,14 +4,14 @@ ghost use Rattle.rcpsp_model.specs.Schedule.{end_of, entries, IsFeasible};
 ghost use Rattle.rcpsp_model.specs.Tree.{LeavesBudgets};
 ghost use Rattle.rcpsp_model.specs.Claim.{HasDuration};
 ghost use Rattle.search_rounds.specs.Going.{Goes, work};
-ghost use Rattle.search_rounds.specs.Found.{IsFound, IsFoundFromFirst, end_of_plan};
+ghost use Rattle.search_rounds.specs.Found.{IsEnded, IsEndedFromFirst, end_of_plan};
 
 use crate::crew::round;
 use plan_bounds::budget_gap;
 use precedence_tree::Node;
 use project_net::{Project, Schedule};
 use sched_base::{Gate, NoMemory};
-use search_rounds::{Best, Found, Search, found_gap};
+use search_rounds::{Best, Ended, Search, found_gap};
 use serial_scheme::first_plan;
 use std::alloc::Global;
 use std::thread::Threads;
@@ -62,14 +62,14 @@ fn run<R: Threads + Sync, G: Gate + Sync>(
     nodes: u32,
     gate: &G,
     best: Best,
-) -> Result<Found, NoMemory>
+) -> Result<Ended, NoMemory>
     requires some_workers { 1 ≤ workers }
     requires few_workers { workers ≤ 32 }
     requires few { nodes ≤ 100000 }
     requires budgets { LeavesBudgets project.now [] }
     requires best { HasDuration project.now best.end best.plan }
     requires soon { IfSome best.end (λ end. end ≤ 1290000) }
-    ensures { IfOk result (IsFound project.now workers best.end nodes) }
+    ensures { IfOk result (IsEnded project.now workers nodes best.end) }
 {
     let mut going = Search::begin(alloc, project, best)?;
     'rounds: while going.has_more(nodes) {
@@ -80,8 +80,8 @@ fn run<R: Threads + Sync, G: Gate + Sync>(
 
 /// A search from a plan, or from none, on 1 to 32 workers, that expands at most so many nodes.
 ///
-/// The workers of a round work side by side, each in a thread of its own where threads can be had, and pass the gate when they
-/// begin and after each node that they expanded.
+/// What it found is told of the end that it gives, with the log or without. The workers of a round work side by side, each in
+/// a thread of its own where threads can be had, and pass the gate when they begin and after each node that they expanded.
 ///
 /// # Errors
 ///
@@ -94,18 +94,18 @@ pub fn search_from<R: Threads + Sync, G: Gate + Sync>(
     nodes: u32,
     plan: Option<Schedule>,
     gate: &G,
-) -> Result<Found, NoMemory>
+) -> Result<Ended, NoMemory>
     requires some_workers { 1 ≤ workers }
     requires few_workers { workers ≤ 32 }
     requires few { nodes ≤ 100000 }
     requires feasible { IfSome plan (IsFeasible project.now) }
     requires soon { IfSome plan (λ s. end_of project.now (entries s) ≤ 1290000) }
-    ensures { IfOk result (IsFound project.now workers (end_of_plan project.now plan) nodes) }
+    ensures { IfOk result (IsEnded project.now workers nodes (end_of_plan project.now plan)) }
 {
     let best = Best::of_plan(project, plan);
     let root = Node::root();
     match budget_gap(project, &root) {
-        Some(resource) => found_gap(alloc, project, nodes, resource, best),
+        Some(resource) => found_gap(alloc, project, resource, best),
         None => run(runtime, alloc, project, workers, nodes, gate, best),
     }
 }
@@ -122,13 +122,13 @@ pub fn search<R: Threads + Sync, G: Gate + Sync>(
     workers: u32,
     nodes: u32,
     gate: &G,
-) -> Result<Found, NoMemory>
+) -> Result<Ended, NoMemory>
     requires some_workers { 1 ≤ workers }
     requires few_workers { workers ≤ 32 }
     requires few { nodes ≤ 100000 }
-    ensures { IfOk result (IsFoundFromFirst project.now workers nodes) }
+    ensures { IfOk result (IsEndedFromFirst project.now workers nodes) }
 {
     let plan = first_plan(alloc, project)?;
-    let found = search_from(runtime, alloc, project, workers, nodes, plan, gate)?;
-    Ok(found)
+    let ended = search_from(runtime, alloc, project, workers, nodes, plan, gate)?;
+    Ok(ended)
 }

@@ -1,6 +1,6 @@
 use Rattle.std.proofs.Common.{ℕ, subst, Option}
 use Rattle.std.specs.Prelude.{IfOk}
-use Rattle.search_rounds.specs.Found.{IsFound}
+use Rattle.search_rounds.specs.Found.{IsEnded}
 use Rattle.steal_rounds.proofs.searching.run.Goals as goal
 
 pub returns : goal.returns
@@ -8,4 +8,4 @@ returns g c =
     let P = c.args.project.now in
     let w = c.args.workers in
     let n = c.args.nodes in
-    subst (λ (first : Option ℕ). IfOk c.finish.result (IsFound P w first n)) c.rounds.invariant.first (c.finish.ensures w c.rounds.invariant.goes)
+    subst (λ (first : Option ℕ). IfOk c.finish.result (IsEnded P w n first)) c.rounds.invariant.first (c.finish.ensures w c.rounds.invariant.goes)
