@@ -1,5 +1,5 @@
 -- What was found is the report that `solve` promises.
-use Rattle.std.proofs.Common.{◌≡◌, ℕ, ◌<◌, ◌≤◌, refl, sym, subst, arith, Bool, true, false, Option, Some, None, List}
+use Rattle.std.proofs.Common.{◌≡◌, ℕ, ◌<◌, ◌≤◌, refl, sym, ap, subst, ◌∙◌, arith, Bool, true, false, Option, Some, None, List}
 use Rattle.rcpsp_model.specs.declared.parts.Verdict.{Verdict}
 use Rattle.rcpsp_model.specs.Project.{Project, IsProject}
 use Rattle.rcpsp_model.specs.Schedule.{end_of, entries}
@@ -10,13 +10,40 @@ use Rattle.log_truth.specs.Holds.{LogHolds}
 use Rattle.log_truth.specs.Laws as truth
 use Rattle.search_log.specs.Lean.{end_number, of_first}
 use Rattle.search_rounds.specs.declared.found.Found.{Found}
-use Rattle.search_rounds.specs.Found.{end_of_plan, report_of}
+use Rattle.search_rounds.specs.declared.found.Ended.{Ended}
+use Rattle.search_rounds.specs.Found.{IsEnded, end_of_plan, report_of, IsFoundBy, IsUntold, HasEnded}
 use Rattle.search_rounds.specs.Laws as search
 use Rattle.serial_scheme.proofs.PlanFacts.{first-end}
-use Rattle.scheduler.specs.Solve.{IsLeanFromStart, IsFoundFromStart, IsSolution, IsDoneBy, IsNoLaterThanFirst, with_log, IsSearched}
+use Rattle.scheduler.specs.Solve.{IsLeanFromStart, IsEndedFromStart, IsFoundFromStart, IsSolution, IsDoneBy, IsNoLaterThanFirst, with_log, IsSearched}
 use Rattle.scheduler.proofs.TwinLines.{no_twins}
 use Rattle.scheduler.proofs.Starts.{start_no_later}
 use Rattle.scheduler.proofs.CountedFronts.{limit_ends, fronts_suffice}
+
+-- Of the end of a search with the start that was asked for, this may be said of what it found.
+
+pub has_ended : (P : Project) (workers nodes tries : ℕ) (e : Ended) → IsEndedFromStart P workers nodes tries e → HasEnded e
+has_ended P workers nodes tries e is = (P, workers, nodes, end_of_plan P is.plan, is.ended)
+
+pub found_by : (P : Project) (workers nodes tries : ℕ) (e : Ended) (f : Found) → nodes ≤ 100000 → IsEndedFromStart P workers nodes tries e → IsFoundBy e f → IsFoundFromStart P workers nodes tries f
+found_by P workers nodes tries e f small is by = record { plan = is.plan; start = is.start; found = by P workers nodes (end_of_plan P is.plan) small is.ended }
+
+-- the report without its log is that of something that was found
+pub record IsUntoldFromStart (P : Project) (workers nodes tries : ℕ) (told : Report) : Type 0 where
+  pub found : Found
+  pub is_found : IsFoundFromStart P workers nodes tries found
+  pub same : told ≡ with_log false (report_of found)
+
+pub untold_by : (P : Project) (workers nodes tries : ℕ) (e : Ended) (told : Report) → IsEndedFromStart P workers nodes tries e → ((first : Option ℕ) → IsEnded P workers nodes first e → IsUntold P workers first nodes told) →
+    IsUntoldFromStart P workers nodes tries told
+untold_by P workers nodes tries e told is by =
+    let x = by (end_of_plan P is.plan) is.ended in
+    record { found = x.found; is_found = record { plan = is.plan; start = is.start; found = x.is_found }; same = x.untold }
+
+-- what is told is as it was asked for
+pub as_asked : (log way : Bool) (told report : Report) → log ≡ way → told ≡ with_log way report → told ≡ with_log log report
+as_asked log way told report e same = same ∙ ap (λ (b : Bool). with_log b report) (sym e)
+
+-- The promise.
 
 done-by : (o : Option ℕ) (n : ℕ) → end_number o ≤ n → n < 4294967295 → IsDoneBy o n
 done-by None n le few = absurd (omega (arith, le, few))

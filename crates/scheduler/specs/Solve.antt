@@ -18,7 +18,8 @@ use Rattle.log_truth.specs.Holds.{IsLimit, IsLeftNumber, expanded_in, numbered, 
 use Rattle.search_log.specs.declared.row.Origin.{Origin}
 use Rattle.search_log.specs.Lean.{IsLeanLog}
 use Rattle.search_rounds.specs.declared.found.Found.{Found}
-use Rattle.search_rounds.specs.Found.{end_of_plan, IsFound}
+use Rattle.search_rounds.specs.declared.found.Ended.{Ended}
+use Rattle.search_rounds.specs.Found.{IsEnded, end_of_plan, IsFound}
 use Rattle.scheduler.specs.Planning.{IsStart}
 
 -- exactly so many lines are expanded, and one was left, with a bound below the duration, if there is one
@@ -36,6 +37,12 @@ pub record IsLeanFromStart (P : Project) (workers tries : ℕ) (verdict : Verdic
   pub starts : List ℕ
   pub origins : List Origin
   pub lean : IsLeanLog P workers (end_of_plan P plan) starts (duration_of verdict) lines origins
+
+-- the end of a search that began so, of so many workers that may expand so many nodes
+pub record IsEndedFromStart (P : Project) (workers nodes tries : ℕ) (e : Ended) : Type 0 where
+  pub plan : Option (List Placing)
+  pub start : IsStart P tries plan
+  pub ended : IsEnded P workers nodes (end_of_plan P plan) e
 
 -- what so many workers found that may expand so many nodes, in a search that began so
 pub record IsFoundFromStart (P : Project) (workers nodes tries : ℕ) (f : Found) : Type 0 where

@@ -3,14 +3,14 @@
 ghost use Rattle.std.specs.Prelude.{◌≡◌, ◌≤◌, IfOk};
 ghost use Rattle.proof_log.specs.Report.{IsReport};
 ghost use Rattle.search_rounds.specs.Found.{report_of};
-ghost use Rattle.scheduler.specs.Solve.{with_log, IsFoundFromStart, IsSearched, IsSearchedTo};
+ghost use Rattle.scheduler.specs.Solve.{IsEndedFromStart, IsSearched, IsSearchedTo};
 
 use crate::planning::start_of;
 use log_truth::true_claim;
 use project_net::Project;
 use proof_log::{Report, Verdict};
 use sched_base::{Gate, NoMemory};
-use search_rounds::{Found, told_report};
+use search_rounds::{Ended, Found, told_report};
 use std::alloc::Global;
 use std::thread::Threads;
 use steal_rounds::search_from;
@@ -28,21 +28,21 @@ pub struct Request {
     pub log: bool,
 }
 
-/// What the workers found.
-fn found_by<R: Threads + Sync, G: Gate + Sync>(
+/// The end of the search of the workers.
+fn ended_by<R: Threads + Sync, G: Gate + Sync>(
     rt: &R,
     alloc: Global,
     gate: &G,
     project: &Project,
     request: Request,
-) -> Result<Found, NoMemory>
+) -> Result<Ended, NoMemory>
     requires some { 1 ≤ request.workers }
     requires few { request.workers ≤ 32 }
     requires nodes { request.nodes ≤ 100000 }
-    ensures { IfOk result (IsFoundFromStart project.now request.workers request.nodes request.tries) }
+    ensures { IfOk result (IsEndedFromStart project.now request.workers request.nodes request.tries) }
 {
     let plan = start_of(alloc, project, request.tries)?;
-    let found = search_from(
+    let ended = search_from(
         rt,
         alloc,
         project,
@@ -51,21 +51,21 @@ fn found_by<R: Threads + Sync, G: Gate + Sync>(
         plan,
         gate,
     )?;
-    Ok(found)
+    Ok(ended)
 }
 
-/// The report of what was found, with its log or without.
-fn told(found: Found, log: bool) -> Report
-    ensures { result ≡ with_log log (report_of found) }
+/// The report of what was found, with its log.
+fn told(found: Found) -> Report
+    ensures { result ≡ report_of found }
 {
     let Found {
         verdict,
         best,
-        log: lines,
+        log,
         origins: _,
         starts: _,
     } = found;
-    let log = if log { Some(lines) } else { None };
+    let log = Some(log);
     Report { verdict, best, log }
 }
 
@@ -86,8 +86,12 @@ pub fn report_on<R: Threads + Sync, G: Gate + Sync>(
     project.known();
     told_report();
     true_claim();
-    let found = found_by(rt, alloc, gate, project, request)?;
-    Ok(told(found, request.log))
+    let ended = ended_by(rt, alloc, gate, project, request)?;
+    if request.log {
+        let found = ended.tell(alloc)?;
+        return Ok(told(found));
+    }
+    Ok(ended.without_log())
 }
 
 /// The verdict of the report on a project, by a search that begins with the first plan.
