@@ -172,7 +172,8 @@ fn search_stealing<R: Threads + Abort + Sync>(
     project: &Project,
 ) -> Result<(), NoMemory> {
     let gate = Holds::new(&STEALING);
-    let found = search(rt, alloc, project, 2, 100_000, &gate)?;
+    let ended = search(rt, alloc, project, 2, 100_000, &gate)?;
+    let found = ended.tell(alloc)?;
     assert!(rt; gate.held());
     assert_eq!(rt; found.verdict, Verdict::Optimal { duration: 1 });
     assert!(rt; has_expanded(&found, 2));

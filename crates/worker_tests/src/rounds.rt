@@ -68,7 +68,7 @@ const CASES: [Case; 6] = [
     },
 ];
 
-/// A search that runs no round.
+/// What a search found that runs no round.
 fn without_rounds(
     alloc: Global,
     project: &Project,
@@ -79,8 +79,15 @@ fn without_rounds(
 {
     let best = Best::of_plan(project, plan);
     match budget_gap(project, &Node::root()) {
-        Some(resource) => found_gap(alloc, project, 0, resource, best),
-        None => Search::begin(alloc, project, best)?.finish(alloc, project, 0),
+        Some(resource) => {
+            let gap = found_gap(alloc, project, resource, best)?;
+            gap.tell(alloc)
+        }
+        None => {
+            let going = Search::begin(alloc, project, best)?;
+            let ended = going.finish(alloc, project, 0)?;
+            ended.tell(alloc)
+        }
     }
 }
 

@@ -145,7 +145,8 @@ fn search_alone<R: Threads + Sync + Abort>(
 ) -> Result<(), NoMemory>
     requires { case.now.nodes ≤ 100000 }
 {
-    let found = search(rt, alloc, project, 1, case.nodes, &OpenGate)?;
+    let ended = search(rt, alloc, project, 1, case.nodes, &OpenGate)?;
+    let found = ended.tell(alloc)?;
     compare(rt, case, &found);
     Ok(())
 }
@@ -194,8 +195,8 @@ fn verdict_of<R: Threads + Sync>(
     requires some { 1 ≤ workers }
     requires few { workers ≤ 32 }
 {
-    let found = search(rt, alloc, project, workers, EXPANSIONS, &OpenGate)?;
-    Ok(found.verdict)
+    let ended = search(rt, alloc, project, workers, EXPANSIONS, &OpenGate)?;
+    Ok(ended.without_log().verdict)
 }
 
 fn compare_crews<R: Threads + Sync + Abort>(
