@@ -3,5 +3,6 @@ mod Thefts
 mod Takings
 mod Reached
 mod NewSeats
+mod NewReaches
 pub mod Stays
 mod Joins

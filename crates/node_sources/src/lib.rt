@@ -11,6 +11,6 @@ mod settling;
 mod source;
 
 pub use reach::Reach;
-pub use seating::seat;
+pub use seating::{ROOM, seat};
 pub use settling::{Settled, settle};
 pub use source::NodeSource;

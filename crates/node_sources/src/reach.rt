@@ -12,8 +12,6 @@ const TRIES: u32 = 4;
 
 /// How often a worker that found no node asks all others once more before it gives up. In between it lets other threads run.
 const TURNS: u32 = 500;
-const PATIENCE: u32 = 500;
-
 
 /// A right to take nodes from the deque of another worker, and what came by it.
 #[derive(Drop)]

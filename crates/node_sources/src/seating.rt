@@ -1,9 +1,10 @@
 // The sources of the workers of a round, before they begin.
-ghost use Rattle.std.specs.Prelude.{◌≡◌, ◌≢◌, ◌+◌, ◌≤◌, ◌<◌, [], ◌∷◌, ◌++◌, length, vec_len, All, IfOk, OnOk};
+ghost use Rattle.std.specs.Prelude.{◌≡◌, ◌≢◌, ◌⊎◌, ◌+◌, ◌≤◌, ◌<◌, [], ◌∷◌, length, vec_len, All, IfOk, OnOk, slice_index_or};
+ghost use Rattle.rcpsp_model.specs.Project.{numbers_from};
 ghost use Rattle.precedence_tree.specs.Node.{StandsFor};
 ghost use Rattle.search_log.specs.Weights.{Each};
 ghost use Rattle.node_sources.specs.Settled.{AreNew};
-ghost use Rattle.node_sources.specs.Seating.{IsLone, SplitsOff, with_reach, KeepsNew};
+ghost use Rattle.node_sources.specs.Seating.{others_behind, ReachesOthers, IsLone, SplitsOff, with_reach, KeepsNew, numbers_of, ReachesMore};
 
 use crate::reach::Reach;
 use crate::source::NodeSource;
@@ -14,8 +15,9 @@ use search_rounds::WaitingNode;
 use std::alloc::Global;
 use std::collections::VecDeque;
 
-/// How many places each worker has for the rows of the children that it makes.
-const ROOM: u32 = 67_108_864;
+/// How many places each worker has for the new rows of a round; before those of the first worker there are as many for the rows
+/// of the table on which the round began.
+pub const ROOM: u32 = 67_108_864;
 
 // A source without reaches.
 fn lone_source(
@@ -47,6 +49,7 @@ fn lone_sources(
     requires nodes { Each (λ list. All (λ w. StandsFor project.now w.node) list.items) dealt.items }
     ensures len { IfOk result (λ sources. vec_len sources ≡ vec_len dealt) }
     ensures new { IfOk result (λ sources. AreNew project.now dealt.items sources.items) }
+    ensures alone { IfOk result (λ sources. Each (λ s. s.reaches ≡ []) sources.items) }
 {
     let mut sources = Vec::with_capacity(alloc, dealt.len())?;
     let mut dealt = VecDeque::from(dealt);
@@ -84,6 +87,7 @@ fn add_reach(sources: &mut [NodeSource], index: usize, other: usize) -> Result<(
     requires apart { other ≢ index }
     ensures len { length sources.new ≡ length sources.old }
     ensures new { OnOk result (KeepsNew sources.old sources.new) }
+    ensures more { OnOk result (ReachesMore index (slice_index_or (numbers_of sources.old) other 0 ∷ []) sources.old sources.new) }
 {
     let reach = reach_into(&mut sources[other])?;
     hold(&mut sources[index], reach)?;
@@ -98,6 +102,7 @@ fn behind(index: usize, steps: usize, count: usize) -> usize
     requires few { count ≤ 32 }
     ensures within { result < count }
     ensures other { result ≢ index }
+    ensures place { (result ≡ index + steps) ⊎ (result + count ≡ index + steps) }
 {
     let place = index + steps;
     if place < count { place } else { place - count }
@@ -107,8 +112,10 @@ fn behind(index: usize, steps: usize, count: usize) -> usize
 fn add_reaches(sources: &mut [NodeSource], index: usize) -> Result<(), NoMemory>
     requires few { length sources.old ≤ 32 }
     requires index { index < length sources.old }
+    requires numbers { numbers_of sources.old ≡ numbers_from 1 (length sources.old) }
     ensures len { length sources.new ≡ length sources.old }
     ensures new { OnOk result (KeepsNew sources.old sources.new) }
+    ensures more { OnOk result (ReachesMore index (others_behind (index + 1) (length sources.old)) sources.old sources.new) }
 {
     let count = sources.len();
     for steps in 1..count {
@@ -117,7 +124,8 @@ fn add_reaches(sources: &mut [NodeSource], index: usize) -> Result<(), NoMemory>
     Ok(())
 }
 
-/// A source for each list of nodes, of the workers from 1 on. Only want of memory is an error.
+/// A source for each list of nodes, of the workers from 1 on, which reaches into the deque of each other worker, that of the
+/// next one first. Only want of memory is an error.
 pub fn seat(
     alloc: Global,
     project: &Project,
@@ -125,7 +133,8 @@ pub fn seat(
 ) -> Result<Vec<NodeSource>, NoMemory>
     requires few { vec_len dealt ≤ 32 }
     requires nodes { Each (λ list. All (λ w. StandsFor project.now w.node) list.items) dealt.items }
-    ensures { IfOk result (λ sources. AreNew project.now dealt.items sources.items) }
+    ensures new { IfOk result (λ sources. AreNew project.now dealt.items sources.items) }
+    ensures reaches { IfOk result (λ sources. Each (ReachesOthers (vec_len dealt)) sources.items) }
 {
     let mut sources = lone_sources(alloc, project, dealt)?;
     for index in 0..sources.len() {

@@ -9,9 +9,9 @@ ghost use Rattle.steal_rounds.specs.Lists.{part_state};
 ghost use Rattle.steal_rounds.specs.Whole.{worked, by_worker, whole_state, better_plan, IsShort, IsOfTable, IsSound, joined_part, AddsMember, joined_views, source_of, all_lists, AddsLeft, IsWholeOf};
 
 use crate::member::Member;
-use crate::part::{Part, ROOM};
+use crate::part::Part;
 use cutset_store::CutRecord;
-use node_sources::{NodeSource, Settled, settle};
+use node_sources::{NodeSource, ROOM, Settled, settle};
 use project_net::{Project, Schedule};
 use sched_base::{List, NoMemory};
 use search_log::{Fill, RowFate};

@@ -2,11 +2,8 @@ use node_sources::NodeSource;
 use search_log::Fill;
 use search_rounds::{NewRow, PlacedRecord};
 
-/// How many places each worker has for the new rows of a round; the table on which the round began has as many before them.
-pub(crate) const ROOM: u32 = 67_108_864;
-
-/// What a worker has done in a round so far. A place below [`ROOM`] is that of a row of the table on which the round began;
-/// the new rows of a worker have the places from [`ROOM`] times its number on.
+/// What a worker has done in a round so far. A place below [`node_sources::ROOM`] is that of a row of the table on which the
+/// round began; the new rows of a worker have the places from this number times its own on.
 #[derive(Drop)]
 pub(crate) struct Part {
     /// The rows of the children of the nodes that it expanded.

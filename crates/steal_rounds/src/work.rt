@@ -11,8 +11,9 @@ ghost use Rattle.steal_rounds.specs.Lists.{part_state};
 ghost use Rattle.steal_rounds.specs.Turns.{stage_of, next_stage, ClosesAs, KeepsShare, Counts, IsTurn};
 
 use crate::expanding::expanded;
-use crate::part::{Part, ROOM};
+use crate::part::Part;
 use cutset_store::CutRecord;
+use node_sources::ROOM;
 use project_net::Project;
 use sched_base::{Gate, NoMemory};
 use search_log::{Fill, Origin, RowFate};

@@ -6,6 +6,7 @@ use Rattle.search_rounds.specs.declared.round.WaitingNode.{WaitingNode}
 use Rattle.node_sources.specs.Source.{SourceState}
 use Rattle.node_sources.proofs.Nodes.{none-left}
 use Rattle.node_sources.proofs.NewSeats.{AreLone, one-more_lone, lone-new}
+use Rattle.node_sources.proofs.NewReaches.{lone-alone}
 use Rattle.node_sources.proofs.seating.lone_sources.Goals as goal
 
 pub loop-nodes-preserved : goal.loop-nodes-preserved
@@ -31,3 +32,10 @@ returns-clause-new c =
     let none = none-left c.loop-nodes.dealt.items c.pop_front.new.self.items c.in_default.ensures.items c.in_default.ensures.rest in
     let done : v.done ≡ c.args.dealt.items = sym (v.all ∙ (ap (λ (xs : List (Vec WaitingNode Global)). v.done ++ xs) none ∙ append-nil v.done)) in
     lone-new c.args.project.now c.args.dealt.items c.loop-nodes.sources.items (subst (λ (xs : List (Vec WaitingNode Global)). AreLone c.args.project.now 1 xs c.loop-nodes.sources.items) done v.lone)
+
+pub returns-clause-alone : goal.returns-clause-alone
+returns-clause-alone c =
+    let v = c.loop-nodes.invariant in
+    let none = none-left c.loop-nodes.dealt.items c.pop_front.new.self.items c.in_default.ensures.items c.in_default.ensures.rest in
+    let done : v.done ≡ c.args.dealt.items = sym (v.all ∙ (ap (λ (xs : List (Vec WaitingNode Global)). v.done ++ xs) none ∙ append-nil v.done)) in
+    lone-alone c.args.project.now 1 c.args.dealt.items c.loop-nodes.sources.items (subst (λ (xs : List (Vec WaitingNode Global)). AreLone c.args.project.now 1 xs c.loop-nodes.sources.items) done v.lone)

@@ -17,14 +17,14 @@ seat-requires-clause-nodes g c = dealt-stand c.args.project.now c.args.frontier 
 
 pub seat-requires-2-clause-room : goal.seat-requires-2-clause-room
 seat-requires-2-clause-room g c =
-    let many = vec-many c.args.project.now c.in_ok-dealt.dealt c.in_ok-sources.sources c.in_ok-sources.ensures in
+    let many = vec-many c.args.project.now c.in_ok-dealt.dealt c.in_ok-sources.sources c.in_ok-sources.ensures.new in
     let dealt = c.in_ok-dealt.ensures.len in
     let terms = ap (λ (v : PassView). v.terms.workers) c.in_ok-words.ensures.view in
     omega arith
 
 pub seat-requires-2-clause-few : goal.seat-requires-2-clause-few
 seat-requires-2-clause-few g c =
-    let many = vec-many c.args.project.now c.in_ok-dealt.dealt c.in_ok-sources.sources c.in_ok-sources.ensures in
+    let many = vec-many c.args.project.now c.in_ok-dealt.dealt c.in_ok-sources.sources c.in_ok-sources.ensures.new in
     let dealt = c.in_ok-dealt.ensures.len in
     let few = c.requires.few_workers in
     omega arith
@@ -34,7 +34,7 @@ run_members-requires-clause-ready g c κs within =
     let round : RoundTerms = record { start = c.number_of-start.result; quota = c.args.terms.quota; workers = c.args.workers } in
     begin-ready c.args.project.now c.args.terms c.args.workers c.in_ok-rows.rows c.in_ok-words.words round c.in_ok-dealt.dealt.items c.in_ok-sources.sources.items c.in_ok-members.members.items
     (record { start = c.number_of-start.ensures; quota = refl; of_words = refl; of_rows = c.in_ok-rows.ensures.workers; cells = c.in_ok-rows.ensures.cells }) c.requires.few_workers
-    (list-many c.in_ok-dealt.dealt ∙ c.in_ok-dealt.ensures.len) c.in_ok-sources.ensures
+    (list-many c.in_ok-dealt.dealt ∙ c.in_ok-dealt.ensures.len) c.in_ok-sources.ensures.new
     (subst (λ (v : PassView). AreSeated c.in_ok-words.words v 1 c.in_ok-sources.sources.items c.in_ok-members.members.items) c.in_ok-words.ensures.view c.in_ok-members.ensures.members)
 
 pub gather-requires-clause-passes : goal.gather-requires-clause-passes
@@ -49,7 +49,7 @@ gather-requires-clause-passes g c =
       many = list-many c.in_ok-dealt.dealt ∙ c.in_ok-dealt.ensures.len;
       dealt = c.in_ok-dealt.ensures.dealt;
       sources = c.in_ok-sources.sources.items;
-      new = c.in_ok-sources.ensures;
+      new = c.in_ok-sources.ensures.new;
       seated = subst (λ (v : PassView). AreSeated c.in_ok-words.words v 1 c.in_ok-sources.sources.items c.in_ok-members.members.items) c.in_ok-words.ensures.view c.in_ok-members.ensures.members;
       went = c.run_members.ensures;
     } in
@@ -67,7 +67,7 @@ gather-requires-clause-plans g c =
       many = list-many c.in_ok-dealt.dealt ∙ c.in_ok-dealt.ensures.len;
       dealt = c.in_ok-dealt.ensures.dealt;
       sources = c.in_ok-sources.sources.items;
-      new = c.in_ok-sources.ensures;
+      new = c.in_ok-sources.ensures.new;
       seated = subst (λ (v : PassView). AreSeated c.in_ok-words.words v 1 c.in_ok-sources.sources.items c.in_ok-members.members.items) c.in_ok-words.ensures.view c.in_ok-members.ensures.members;
       went = c.run_members.ensures;
     } in
@@ -85,7 +85,7 @@ gather-requires-clause-sources g c =
       many = list-many c.in_ok-dealt.dealt ∙ c.in_ok-dealt.ensures.len;
       dealt = c.in_ok-dealt.ensures.dealt;
       sources = c.in_ok-sources.sources.items;
-      new = c.in_ok-sources.ensures;
+      new = c.in_ok-sources.ensures.new;
       seated = subst (λ (v : PassView). AreSeated c.in_ok-words.words v 1 c.in_ok-sources.sources.items c.in_ok-members.members.items) c.in_ok-words.ensures.view c.in_ok-members.ensures.members;
       went = c.run_members.ensures;
     } in
@@ -103,13 +103,13 @@ close_with-end-requires-clause-first g c =
       many = list-many c.in_ok-dealt.dealt ∙ c.in_ok-dealt.ensures.len;
       dealt = c.in_ok-dealt.ensures.dealt;
       sources = c.in_ok-sources.sources.items;
-      new = c.in_ok-sources.ensures;
+      new = c.in_ok-sources.ensures.new;
       seated = subst (λ (v : PassView). AreSeated c.in_ok-words.words v 1 c.in_ok-sources.sources.items c.in_ok-members.members.items) c.in_ok-words.ensures.view c.in_ok-members.ensures.members;
       went = c.run_members.ensures;
     } in
     let joined : c.gather.new.first.view ≡ joined_views (with_workers c.args.workers (first_view round)) c.run_members.new.members.items = c.in_ok-whole.ensures.view ∙ ap (λ (v : PassView). joined_views v c.run_members.new.members.items)
     (c.in_ok-members.ensures.first ∙ (ap (λ (v : PassView). with_workers (vec_len c.in_ok-sources.sources) v) c.in_ok-words.ensures.view
-    ∙ ap (λ (n : ℕ). with_workers n (first_view round)) (vec-many c.args.project.now c.in_ok-dealt.dealt c.in_ok-sources.sources c.in_ok-sources.ensures ∙ c.in_ok-dealt.ensures.len))) in
+    ∙ ap (λ (n : ℕ). with_workers n (first_view round)) (vec-many c.args.project.now c.in_ok-dealt.dealt c.in_ok-sources.sources c.in_ok-sources.ensures.new ∙ c.in_ok-dealt.ensures.len))) in
     let gathered : Gathered c.args.project.now c.args.table.now c.args.records.now c.args.terms c.args.workers c.in_ok-rows.rows c.in_ok-words.words round c.args.frontier c.in_ok-dealt.dealt.items c.in_ok-members.members.items c.run_members.new.members.items
     c.in_ok-whole.whole c.gather.new.first.view = record { ran = ran; sound = c.in_ok-whole.ensures.sound; whole_is = subst (λ (n : ℕ). IsWholeOf c.args.project.now n c.run_members.new.members.items c.in_ok-whole.whole) c.len.ensures c.in_ok-whole.ensures.whole; joined = joined } in
     (gathered-view _ _ _ _ _ _ _ _ _ _ _ _ _ _ gathered).number
@@ -126,13 +126,13 @@ close_with-end-requires-clause-all g c =
       many = list-many c.in_ok-dealt.dealt ∙ c.in_ok-dealt.ensures.len;
       dealt = c.in_ok-dealt.ensures.dealt;
       sources = c.in_ok-sources.sources.items;
-      new = c.in_ok-sources.ensures;
+      new = c.in_ok-sources.ensures.new;
       seated = subst (λ (v : PassView). AreSeated c.in_ok-words.words v 1 c.in_ok-sources.sources.items c.in_ok-members.members.items) c.in_ok-words.ensures.view c.in_ok-members.ensures.members;
       went = c.run_members.ensures;
     } in
     let joined : c.gather.new.first.view ≡ joined_views (with_workers c.args.workers (first_view round)) c.run_members.new.members.items = c.in_ok-whole.ensures.view ∙ ap (λ (v : PassView). joined_views v c.run_members.new.members.items)
     (c.in_ok-members.ensures.first ∙ (ap (λ (v : PassView). with_workers (vec_len c.in_ok-sources.sources) v) c.in_ok-words.ensures.view
-    ∙ ap (λ (n : ℕ). with_workers n (first_view round)) (vec-many c.args.project.now c.in_ok-dealt.dealt c.in_ok-sources.sources c.in_ok-sources.ensures ∙ c.in_ok-dealt.ensures.len))) in
+    ∙ ap (λ (n : ℕ). with_workers n (first_view round)) (vec-many c.args.project.now c.in_ok-dealt.dealt c.in_ok-sources.sources c.in_ok-sources.ensures.new ∙ c.in_ok-dealt.ensures.len))) in
     let gathered : Gathered c.args.project.now c.args.table.now c.args.records.now c.args.terms c.args.workers c.in_ok-rows.rows c.in_ok-words.words round c.args.frontier c.in_ok-dealt.dealt.items c.in_ok-members.members.items c.run_members.new.members.items
     c.in_ok-whole.whole c.gather.new.first.view = record { ran = ran; sound = c.in_ok-whole.ensures.sound; whole_is = subst (λ (n : ℕ). IsWholeOf c.args.project.now n c.run_members.new.members.items c.in_ok-whole.whole) c.len.ensures c.in_ok-whole.ensures.whole; joined = joined } in
     (gathered-view _ _ _ _ _ _ _ _ _ _ _ _ _ _ gathered).all
@@ -149,13 +149,13 @@ settled-requires-clause-published g c =
       many = list-many c.in_ok-dealt.dealt ∙ c.in_ok-dealt.ensures.len;
       dealt = c.in_ok-dealt.ensures.dealt;
       sources = c.in_ok-sources.sources.items;
-      new = c.in_ok-sources.ensures;
+      new = c.in_ok-sources.ensures.new;
       seated = subst (λ (v : PassView). AreSeated c.in_ok-words.words v 1 c.in_ok-sources.sources.items c.in_ok-members.members.items) c.in_ok-words.ensures.view c.in_ok-members.ensures.members;
       went = c.run_members.ensures;
     } in
     let joined : c.gather.new.first.view ≡ joined_views (with_workers c.args.workers (first_view round)) c.run_members.new.members.items = c.in_ok-whole.ensures.view ∙ ap (λ (v : PassView). joined_views v c.run_members.new.members.items)
     (c.in_ok-members.ensures.first ∙ (ap (λ (v : PassView). with_workers (vec_len c.in_ok-sources.sources) v) c.in_ok-words.ensures.view
-    ∙ ap (λ (n : ℕ). with_workers n (first_view round)) (vec-many c.args.project.now c.in_ok-dealt.dealt c.in_ok-sources.sources c.in_ok-sources.ensures ∙ c.in_ok-dealt.ensures.len))) in
+    ∙ ap (λ (n : ℕ). with_workers n (first_view round)) (vec-many c.args.project.now c.in_ok-dealt.dealt c.in_ok-sources.sources c.in_ok-sources.ensures.new ∙ c.in_ok-dealt.ensures.len))) in
     let gathered : Gathered c.args.project.now c.args.table.now c.args.records.now c.args.terms c.args.workers c.in_ok-rows.rows c.in_ok-words.words round c.args.frontier c.in_ok-dealt.dealt.items c.in_ok-members.members.items c.run_members.new.members.items
     c.in_ok-whole.whole c.gather.new.first.view = record { ran = ran; sound = c.in_ok-whole.ensures.sound; whole_is = subst (λ (n : ℕ). IsWholeOf c.args.project.now n c.run_members.new.members.items c.in_ok-whole.whole) c.len.ensures c.in_ok-whole.ensures.whole; joined = joined } in
     let terms_of = ap (λ (t : RoundTerms). t.workers) (gathered-view _ _ _ _ _ _ _ _ _ _ _ _ _ _ gathered).terms_of in
@@ -174,13 +174,13 @@ settled-requires-clause-cited g c =
       many = list-many c.in_ok-dealt.dealt ∙ c.in_ok-dealt.ensures.len;
       dealt = c.in_ok-dealt.ensures.dealt;
       sources = c.in_ok-sources.sources.items;
-      new = c.in_ok-sources.ensures;
+      new = c.in_ok-sources.ensures.new;
       seated = subst (λ (v : PassView). AreSeated c.in_ok-words.words v 1 c.in_ok-sources.sources.items c.in_ok-members.members.items) c.in_ok-words.ensures.view c.in_ok-members.ensures.members;
       went = c.run_members.ensures;
     } in
     let joined : c.gather.new.first.view ≡ joined_views (with_workers c.args.workers (first_view round)) c.run_members.new.members.items = c.in_ok-whole.ensures.view ∙ ap (λ (v : PassView). joined_views v c.run_members.new.members.items)
     (c.in_ok-members.ensures.first ∙ (ap (λ (v : PassView). with_workers (vec_len c.in_ok-sources.sources) v) c.in_ok-words.ensures.view
-    ∙ ap (λ (n : ℕ). with_workers n (first_view round)) (vec-many c.args.project.now c.in_ok-dealt.dealt c.in_ok-sources.sources c.in_ok-sources.ensures ∙ c.in_ok-dealt.ensures.len))) in
+    ∙ ap (λ (n : ℕ). with_workers n (first_view round)) (vec-many c.args.project.now c.in_ok-dealt.dealt c.in_ok-sources.sources c.in_ok-sources.ensures.new ∙ c.in_ok-dealt.ensures.len))) in
     let gathered : Gathered c.args.project.now c.args.table.now c.args.records.now c.args.terms c.args.workers c.in_ok-rows.rows c.in_ok-words.words round c.args.frontier c.in_ok-dealt.dealt.items c.in_ok-members.members.items c.run_members.new.members.items
     c.in_ok-whole.whole c.gather.new.first.view = record { ran = ran; sound = c.in_ok-whole.ensures.sound; whole_is = subst (λ (n : ℕ). IsWholeOf c.args.project.now n c.run_members.new.members.items c.in_ok-whole.whole) c.len.ensures c.in_ok-whole.ensures.whole; joined = joined } in
     let terms_of = ap (λ (t : RoundTerms). t.workers) (gathered-view _ _ _ _ _ _ _ _ _ _ _ _ _ _ gathered).terms_of in
@@ -199,13 +199,13 @@ settled-requires-clause-many g c =
       many = list-many c.in_ok-dealt.dealt ∙ c.in_ok-dealt.ensures.len;
       dealt = c.in_ok-dealt.ensures.dealt;
       sources = c.in_ok-sources.sources.items;
-      new = c.in_ok-sources.ensures;
+      new = c.in_ok-sources.ensures.new;
       seated = subst (λ (v : PassView). AreSeated c.in_ok-words.words v 1 c.in_ok-sources.sources.items c.in_ok-members.members.items) c.in_ok-words.ensures.view c.in_ok-members.ensures.members;
       went = c.run_members.ensures;
     } in
     let joined : c.gather.new.first.view ≡ joined_views (with_workers c.args.workers (first_view round)) c.run_members.new.members.items = c.in_ok-whole.ensures.view ∙ ap (λ (v : PassView). joined_views v c.run_members.new.members.items)
     (c.in_ok-members.ensures.first ∙ (ap (λ (v : PassView). with_workers (vec_len c.in_ok-sources.sources) v) c.in_ok-words.ensures.view
-    ∙ ap (λ (n : ℕ). with_workers n (first_view round)) (vec-many c.args.project.now c.in_ok-dealt.dealt c.in_ok-sources.sources c.in_ok-sources.ensures ∙ c.in_ok-dealt.ensures.len))) in
+    ∙ ap (λ (n : ℕ). with_workers n (first_view round)) (vec-many c.args.project.now c.in_ok-dealt.dealt c.in_ok-sources.sources c.in_ok-sources.ensures.new ∙ c.in_ok-dealt.ensures.len))) in
     let gathered : Gathered c.args.project.now c.args.table.now c.args.records.now c.args.terms c.args.workers c.in_ok-rows.rows c.in_ok-words.words round c.args.frontier c.in_ok-dealt.dealt.items c.in_ok-members.members.items c.run_members.new.members.items
     c.in_ok-whole.whole c.gather.new.first.view = record { ran = ran; sound = c.in_ok-whole.ensures.sound; whole_is = subst (λ (n : ℕ). IsWholeOf c.args.project.now n c.run_members.new.members.items c.in_ok-whole.whole) c.len.ensures c.in_ok-whole.ensures.whole; joined = joined } in
     let terms_of = ap (λ (t : RoundTerms). t.workers) (gathered-view _ _ _ _ _ _ _ _ _ _ _ _ _ _ gathered).terms_of in
@@ -224,13 +224,13 @@ settled-requires-clause-fills g c =
       many = list-many c.in_ok-dealt.dealt ∙ c.in_ok-dealt.ensures.len;
       dealt = c.in_ok-dealt.ensures.dealt;
       sources = c.in_ok-sources.sources.items;
-      new = c.in_ok-sources.ensures;
+      new = c.in_ok-sources.ensures.new;
       seated = subst (λ (v : PassView). AreSeated c.in_ok-words.words v 1 c.in_ok-sources.sources.items c.in_ok-members.members.items) c.in_ok-words.ensures.view c.in_ok-members.ensures.members;
       went = c.run_members.ensures;
     } in
     let joined : c.gather.new.first.view ≡ joined_views (with_workers c.args.workers (first_view round)) c.run_members.new.members.items = c.in_ok-whole.ensures.view ∙ ap (λ (v : PassView). joined_views v c.run_members.new.members.items)
     (c.in_ok-members.ensures.first ∙ (ap (λ (v : PassView). with_workers (vec_len c.in_ok-sources.sources) v) c.in_ok-words.ensures.view
-    ∙ ap (λ (n : ℕ). with_workers n (first_view round)) (vec-many c.args.project.now c.in_ok-dealt.dealt c.in_ok-sources.sources c.in_ok-sources.ensures ∙ c.in_ok-dealt.ensures.len))) in
+    ∙ ap (λ (n : ℕ). with_workers n (first_view round)) (vec-many c.args.project.now c.in_ok-dealt.dealt c.in_ok-sources.sources c.in_ok-sources.ensures.new ∙ c.in_ok-dealt.ensures.len))) in
     let gathered : Gathered c.args.project.now c.args.table.now c.args.records.now c.args.terms c.args.workers c.in_ok-rows.rows c.in_ok-words.words round c.args.frontier c.in_ok-dealt.dealt.items c.in_ok-members.members.items c.run_members.new.members.items
     c.in_ok-whole.whole c.gather.new.first.view = record { ran = ran; sound = c.in_ok-whole.ensures.sound; whole_is = subst (λ (n : ℕ). IsWholeOf c.args.project.now n c.run_members.new.members.items c.in_ok-whole.whole) c.len.ensures c.in_ok-whole.ensures.whole; joined = joined } in
     let terms_of = ap (λ (t : RoundTerms). t.workers) (gathered-view _ _ _ _ _ _ _ _ _ _ _ _ _ _ gathered).terms_of in
@@ -249,13 +249,13 @@ ended-requires g c =
       many = list-many c.in_ok-dealt.dealt ∙ c.in_ok-dealt.ensures.len;
       dealt = c.in_ok-dealt.ensures.dealt;
       sources = c.in_ok-sources.sources.items;
-      new = c.in_ok-sources.ensures;
+      new = c.in_ok-sources.ensures.new;
       seated = subst (λ (v : PassView). AreSeated c.in_ok-words.words v 1 c.in_ok-sources.sources.items c.in_ok-members.members.items) c.in_ok-words.ensures.view c.in_ok-members.ensures.members;
       went = c.run_members.ensures;
     } in
     let joined : c.gather.new.first.view ≡ joined_views (with_workers c.args.workers (first_view round)) c.run_members.new.members.items = c.in_ok-whole.ensures.view ∙ ap (λ (v : PassView). joined_views v c.run_members.new.members.items)
     (c.in_ok-members.ensures.first ∙ (ap (λ (v : PassView). with_workers (vec_len c.in_ok-sources.sources) v) c.in_ok-words.ensures.view
-    ∙ ap (λ (n : ℕ). with_workers n (first_view round)) (vec-many c.args.project.now c.in_ok-dealt.dealt c.in_ok-sources.sources c.in_ok-sources.ensures ∙ c.in_ok-dealt.ensures.len))) in
+    ∙ ap (λ (n : ℕ). with_workers n (first_view round)) (vec-many c.args.project.now c.in_ok-dealt.dealt c.in_ok-sources.sources c.in_ok-sources.ensures.new ∙ c.in_ok-dealt.ensures.len))) in
     let gathered : Gathered c.args.project.now c.args.table.now c.args.records.now c.args.terms c.args.workers c.in_ok-rows.rows c.in_ok-words.words round c.args.frontier c.in_ok-dealt.dealt.items c.in_ok-members.members.items c.run_members.new.members.items
     c.in_ok-whole.whole c.gather.new.first.view = record { ran = ran; sound = c.in_ok-whole.ensures.sound; whole_is = subst (λ (n : ℕ). IsWholeOf c.args.project.now n c.run_members.new.members.items c.in_ok-whole.whole) c.len.ensures c.in_ok-whole.ensures.whole; joined = joined } in
     let close : Closes round c.gather.new.first.view c.close_with-end.result.best c.close_with-end.result.tickets = record { best_is = c.close_with-end.ensures.best; seen = c.close_with-end.ensures.seen; won = c.close_with-end.ensures.won; spent = c.close_with-end.ensures.spent } in
@@ -276,13 +276,13 @@ returns g c =
       many = list-many c.in_ok-dealt.dealt ∙ c.in_ok-dealt.ensures.len;
       dealt = c.in_ok-dealt.ensures.dealt;
       sources = c.in_ok-sources.sources.items;
-      new = c.in_ok-sources.ensures;
+      new = c.in_ok-sources.ensures.new;
       seated = subst (λ (v : PassView). AreSeated c.in_ok-words.words v 1 c.in_ok-sources.sources.items c.in_ok-members.members.items) c.in_ok-words.ensures.view c.in_ok-members.ensures.members;
       went = c.run_members.ensures;
     } in
     let joined : c.gather.new.first.view ≡ joined_views (with_workers c.args.workers (first_view round)) c.run_members.new.members.items = c.in_ok-whole.ensures.view ∙ ap (λ (v : PassView). joined_views v c.run_members.new.members.items)
     (c.in_ok-members.ensures.first ∙ (ap (λ (v : PassView). with_workers (vec_len c.in_ok-sources.sources) v) c.in_ok-words.ensures.view
-    ∙ ap (λ (n : ℕ). with_workers n (first_view round)) (vec-many c.args.project.now c.in_ok-dealt.dealt c.in_ok-sources.sources c.in_ok-sources.ensures ∙ c.in_ok-dealt.ensures.len))) in
+    ∙ ap (λ (n : ℕ). with_workers n (first_view round)) (vec-many c.args.project.now c.in_ok-dealt.dealt c.in_ok-sources.sources c.in_ok-sources.ensures.new ∙ c.in_ok-dealt.ensures.len))) in
     let gathered : Gathered c.args.project.now c.args.table.now c.args.records.now c.args.terms c.args.workers c.in_ok-rows.rows c.in_ok-words.words round c.args.frontier c.in_ok-dealt.dealt.items c.in_ok-members.members.items c.run_members.new.members.items
     c.in_ok-whole.whole c.gather.new.first.view = record { ran = ran; sound = c.in_ok-whole.ensures.sound; whole_is = subst (λ (n : ℕ). IsWholeOf c.args.project.now n c.run_members.new.members.items c.in_ok-whole.whole) c.len.ensures c.in_ok-whole.ensures.whole; joined = joined } in
     if_ok-weaker (EndsAs c.settled.result c.close_with-end.result.best) (IsRoundOn c.args.project.now c.args.workers c.args.table.now c.args.records.now c.args.frontier c.args.terms) c.ended.result c.ended.ensures
