@@ -65,20 +65,6 @@ number-in i (suc n) (suc k) d l = let ih = number-in (i + 1) n k d (omega arith)
 abbrev pub first_behind : ℕ → ℕ → ℕ → List ℕ
 first_behind index count many = numbers_from (index + 2) (many - (many - (count - index - 1))) ++ numbers_from 1 (many - (count - index - 1))
 
-pub behind-none : (index count : ℕ) → first_behind index count 0 ≡ []
-behind-none index count =
-    let a : 0 - (0 - (count - index - 1)) ≡ 0 = omega arith in
-    let b : 0 - (count - index - 1) ≡ 0 = omega arith in
-    ap (λ (n : ℕ). numbers_from (index + 2) n ++ numbers_from 1 (0 - (count - index - 1))) a ∙ ap (numbers_from 1) b
-
-pub behind-all : (index count many : ℕ) → index < count → many + 1 ≡ count → first_behind index count many ≡ others_behind (index + 1) count
-behind-all index count many l e =
-    let a : index + 2 ≡ index + 1 + 1 = omega arith in
-    let b : many - (many - (count - index - 1)) ≡ count - (index + 1) = omega arith in
-    let c : many - (count - index - 1) ≡ index + 1 - 1 = omega arith in
-    ap (λ (n : ℕ). numbers_from n (many - (many - (count - index - 1))) ++ numbers_from 1 (many - (count - index - 1))) a
-    ∙ (ap (λ (n : ℕ). numbers_from (index + 1 + 1) n ++ numbers_from 1 (many - (count - index - 1))) b ∙ ap (λ (n : ℕ). numbers_from (index + 1 + 1) (count - (index + 1)) ++ numbers_from 1 n) c)
-
 -- one more, before the last or from the first on
 pub behind-more : (index count many r : ℕ) → index < count → r < count → (r ≡ index + (many + 1)) ⊎ (r + count ≡ index + (many + 1)) → first_behind index count many ++ (1 + r) ∷ [] ≡ first_behind index count (many + 1)
 behind-more index count many r l lr (inl is) =
