@@ -24,6 +24,7 @@ pub mod PlanEnds
 pub mod DealtNodes
 pub mod ShortPlans
 pub mod CitedPlaces
+pub mod ChangedItems
 pub mod SeatedMembers
 pub mod GatheredParts
 pub mod MemberEnds

@@ -121,26 +121,66 @@ fn table_fate(starts: &[u32], fate: RowFate) -> Result<RowFate, NoMemory>
     }
 }
 
-fn add_rows(rows: &mut Vec<NewRow>, more: &[NewRow]) -> Result<(), NoMemory>
-    ensures { OnOk result (rows.new.items ≡ rows.old.items ++ more.now) }
+/// How many items the parts of all workers have. By it room is taken ahead; nothing else depends on it.
+#[derive(Clone, Copy)]
+struct Sizes {
+    grown: usize,
+    fills: usize,
+    made: usize,
+}
+
+// The sizes of the parts of these workers.
+fn sizes_of(members: &[Member]) -> Sizes {
+    let mut sizes = Sizes {
+        grown: 0,
+        fills: 0,
+        made: 0,
+    };
+    for member in members {
+        let part = &member.part;
+        sizes = Sizes {
+            grown: sizes.grown.saturating_add(part.grown.as_slice().len()),
+            fills: sizes.fills.saturating_add(part.fills.as_slice().len()),
+            made: sizes.made.saturating_add(part.made.as_slice().len()),
+        };
+    }
+    sizes
+}
+
+// Appends items to a list that is to have so many in all. Their vector is taken over where they are all.
+fn append<T: Drop>(all: &mut Vec<T>, mut more: Vec<T>, size: usize) -> Result<(), NoMemory>
+    ensures { OnOk result (all.new.items ≡ all.old.items ++ more.items) }
 {
-    rows.extend_from_slice(more)?;
+    if all.is_empty() && size <= more.len() {
+        *all = more;
+        return Ok(());
+    }
+    all.reserve(size.saturating_sub(all.len()))?;
+    all.append(&mut more)?;
     Ok(())
 }
 
-fn add_fills(fills: &mut Vec<Fill>, starts: &[u32], more: &[Fill]) -> Result<(), NoMemory>
-    ensures { OnOk result (fills.new.items ≡ fills.old.items ++ map (real_fill starts.now) more.now) }
+// Gives fills their places in the table.
+fn place_fills(starts: &[u32], fills: &mut [Fill]) -> Result<(), NoMemory>
+    ensures { OnOk result (fills.new ≡ map (real_fill starts.now) fills.old) }
 {
-    for fill in more {
-        let place = table_place(starts, fill.place)?;
-        let fate = table_fate(starts, fill.fate)?;
-        fills.push(Fill {
-            place,
-            fate,
-            origin: fill.origin,
-        })?;
+    for fill in fills.iter_mut() {
+        fill.place = table_place(starts, fill.place)?;
+        fill.fate = table_fate(starts, fill.fate)?;
     }
     Ok(())
+}
+
+fn add_fills(
+    fills: &mut Vec<Fill>,
+    starts: &[u32],
+    mut more: Vec<Fill>,
+    size: usize,
+) -> Result<(), NoMemory>
+    ensures { OnOk result (fills.new.items ≡ fills.old.items ++ map (real_fill starts.now) more.items) }
+{
+    place_fills(starts, more.as_mut_slice())?;
+    append(fills, more, size)
 }
 
 fn add_live(live: &mut Vec<u32>, before: u32, more: &[u32]) -> Result<(), NoMemory>
@@ -153,17 +193,34 @@ fn add_live(live: &mut Vec<u32>, before: u32, more: &[u32]) -> Result<(), NoMemo
     Ok(())
 }
 
+// Gives records their places in the table.
+fn place_made(starts: &[u32], made: &mut [PlacedRecord]) -> Result<(), NoMemory>
+    ensures { OnOk result (made.new ≡ map (real_record starts.now) made.old) }
+{
+    for placed in made.iter_mut() {
+        placed.place = table_place(starts, placed.place)?;
+    }
+    Ok(())
+}
+
 fn add_made(
     made: &mut Vec<PlacedRecord>,
     starts: &[u32],
-    more: Vec<PlacedRecord>,
+    mut more: Vec<PlacedRecord>,
+    size: usize,
 ) -> Result<(), NoMemory>
     ensures { OnOk result (made.new.items ≡ made.old.items ++ map (real_record starts.now) more.items) }
 {
-    let mut more = VecDeque::from(more);
-    while let Some(PlacedRecord { place, known }) = more.pop_front() {
-        let place = table_place(starts, place)?;
-        made.push(PlacedRecord { place, known })?;
+    place_made(starts, more.as_mut_slice())?;
+    append(made, more, size)
+}
+
+// Gives nodes their places in the table.
+fn place_left(starts: &[u32], left: &mut [WaitingNode]) -> Result<(), NoMemory>
+    ensures { OnOk result (left.new ≡ map (real_waiting starts.now) left.old) }
+{
+    for waiting in left.iter_mut() {
+        waiting.place = table_place(starts, waiting.place)?;
     }
     Ok(())
 }
@@ -172,27 +229,35 @@ fn add_left(
     left: &mut Vec<WaitingNode>,
     starts: &[u32],
     more: List<WaitingNode>,
+    size: usize,
 ) -> Result<(), NoMemory>
     ensures { OnOk result (left.new.items ≡ left.old.items ++ map (real_waiting starts.now) more) }
 {
-    let mut more = VecDeque::from(more.into_vec());
-    while let Some(WaitingNode { place, node }) = more.pop_front() {
-        let place = table_place(starts, place)?;
-        left.push(WaitingNode { place, node })?;
+    let mut more = more.into_vec();
+    place_left(starts, more.as_mut_slice())?;
+    append(left, more, size)
+}
+
+// How many nodes the lists have. By it room is taken ahead.
+fn size_of(lists: &[List<WaitingNode>]) -> usize {
+    let mut size: usize = 0;
+    for list in lists {
+        size = size.saturating_add(list.len());
     }
-    Ok(())
+    size
 }
 
 fn add_lists(
     left: &mut Vec<WaitingNode>,
     starts: &[u32],
     lists: Vec<List<WaitingNode>>,
+    size: usize,
 ) -> Result<(), NoMemory>
     ensures { OnOk result (left.new.items ≡ left.old.items ++ map (real_waiting starts.now) (all_lists lists.items)) }
 {
     let mut lists = VecDeque::from(lists);
     while let Some(list) = lists.pop_front() {
-        add_left(left, starts, list)?;
+        add_left(left, starts, list, size)?;
     }
     Ok(())
 }
@@ -208,8 +273,9 @@ fn add_all_left(
     ensures { OnOk result (AddsLeft starts.now sources.items left.old.items left.new.items) }
 {
     let Settled { lists, rest } = settle(alloc, sources)?;
-    add_lists(left, starts, lists)?;
-    add_left(left, starts, rest)
+    let size = size_of(lists.as_slice()).saturating_add(rest.len());
+    add_lists(left, starts, lists, size)?;
+    add_left(left, starts, rest, size)
 }
 
 // Joins a part, apart from what is left, and keeps its source.
@@ -217,6 +283,7 @@ fn add_part(
     whole: &mut Whole,
     sources: &mut Vec<NodeSource>,
     starts: &[u32],
+    sizes: Sizes,
     part: Part,
 ) -> Result<(), NoMemory>
     ensures lists { OnOk result (whole_state whole.new ≡ joined_part starts.now (whole_state whole.old) (part_state part)) }
@@ -233,11 +300,11 @@ fn add_part(
         source,
     } = part;
     let before = number_of(whole.fills.as_slice().len())?;
-    add_fills(&mut whole.fills, starts, fills.as_slice())?;
+    add_fills(&mut whole.fills, starts, fills, sizes.fills)?;
     add_live(&mut whole.live, before, live.as_slice())?;
-    add_made(&mut whole.made, starts, made)?;
+    add_made(&mut whole.made, starts, made, sizes.made)?;
     sources.push(source)?;
-    add_rows(&mut whole.grown, grown.as_slice())
+    append(&mut whole.grown, grown, sizes.grown)
 }
 
 // Whether a schedule ends before another.
@@ -290,6 +357,7 @@ fn add_member(
     alloc: Global,
     project: &Project,
     starts: &[u32],
+    sizes: Sizes,
     words: &RoundTable,
     first: &mut Pass,
     whole: &mut Whole,
@@ -318,7 +386,7 @@ fn add_member(
         return Err(NoMemory);
     }
     let made = whole.made.as_slice().len();
-    add_part(whole, sources, starts, part)?;
+    add_part(whole, sources, starts, sizes, part)?;
     let parts = worker.into_parts();
     let shown = shown_by(alloc, number, parts.own)?;
     whole.published.push(Published { first: made, shown })?;
@@ -347,6 +415,7 @@ pub(crate) fn gather(
     ensures whole { IfOk result (IsWholeOf project.now table members.items) }
 {
     let starts = starts_of(alloc, table, members.as_slice())?;
+    let sizes = sizes_of(members.as_slice());
     let mut whole = Whole {
         grown: Vec::new(alloc),
         fills: Vec::new(alloc),
@@ -364,6 +433,7 @@ pub(crate) fn gather(
             alloc,
             project,
             starts.as_slice(),
+            sizes,
             words,
             first,
             &mut whole,

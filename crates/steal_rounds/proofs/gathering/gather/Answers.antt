@@ -57,7 +57,7 @@ returns-clause-whole c =
     let members = c.args.members.items in
     let none = none-dropped c.loop-member.members.items c.pop_front.new.self.items c.in_default.ensures.items c.in_default.ensures.rest in
     let all : c.from-members.result.items ≡ members = c.from-members.ensures.0 in
-    let a = subst (λ (ps : List ℕ). AddsLeft ps c.loop-member.sources.items w.left.items c.add_all_left.new.left.items) c.as_slice-2.ensures.value c.in_ok-add_all_left.ensures in
+    let a = subst (λ (ps : List ℕ). AddsLeft ps c.loop-member.sources.items w.left.items c.add_all_left.new.left.items) c.as_slice-3.ensures.value c.in_ok-add_all_left.ensures in
     let sources = sources-all c.loop-member.sources.items c.loop-member.members.items c.from-members.result.items members none v.sources all in
     let both = whole-all starts (whole_state w) c.add_all_left.new.left.items members c.loop-member.sources.items (sym (ap (joined_parts starts (whole_state w)) none) ∙ (v.lists ∙ ap (joined_parts starts (new_part [])) all)) sources a in
     record {
