@@ -1,5 +1,5 @@
 -- A share at its start.
-use Rattle.std.proofs.Common.{◌≡◌, ℕ, ◌+◌, ◌*◌, ◌<◌, ◌≤◌, inl, refl, sym, ap, subst, arith, List, [], ◌++◌, append-nil, ◌∙◌, length, map, All}
+use Rattle.std.proofs.Common.{◌≡◌, ◌<◌, ◌≤◌, inl, refl, sym, ap, subst, arith, List, [], ◌++◌, append-nil, ◌∙◌, All}
 use Rattle.std.specs.List.{AllZip}
 use Rattle.std.proofs.lemmas.List.Elements.{All-nil}
 use Rattle.rcpsp_model.specs.Project.{Project}

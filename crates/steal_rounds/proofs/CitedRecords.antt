@@ -8,7 +8,6 @@ use Rattle.rcpsp_model.specs.declared.parts.Entry.{Entry}
 use Rattle.rcpsp_model.specs.Project.{Project}
 use Rattle.rcpsp_model.specs.Dominance.{Dominates}
 use Rattle.rcpsp_model.proofs.Lists.{In, In-from_Contains, Contains-from_In}
-use Rattle.rcpsp_model.proofs.Choices.{In-map}
 use Rattle.log_truth.specs.Fates.{late_leaf}
 use Rattle.precedence_tree.specs.declared.base.Base.{Base}
 use Rattle.cutset_store.specs.Index.{fronts_of}
@@ -21,7 +20,6 @@ use Rattle.search_log.specs.Stands.{TreeNode, searching, Suits, FillSuits, Grows
 use Rattle.search_log.proofs.Sums.{Each-In}
 use Rattle.search_rounds.specs.declared.round.PlacedRecord.{PlacedRecord}
 use Rattle.search_rounds.specs.Round.{waiting_of}
-use Rattle.search_rounds.proofs.FilledSums.{Contains-left, Contains-right}
 use Rattle.tree_worker.specs.declared.live.LiveNote.{LiveNote}
 use Rattle.tree_worker.specs.Worker.{Progress}
 use Rattle.round_shares.specs.Ends.{end_in}

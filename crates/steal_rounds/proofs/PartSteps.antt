@@ -6,7 +6,6 @@ use Rattle.rcpsp_model.specs.declared.parts.Entry.{Entry}
 use Rattle.rcpsp_model.specs.Project.{Project}
 use Rattle.search_log.specs.declared.row.Row.{Row}
 use Rattle.search_log.specs.declared.row.Fill.{Fill}
-use Rattle.search_log.specs.Weights.{Each}
 use Rattle.search_log.specs.Fates.{row_saying}
 use Rattle.search_log.specs.Table.{row_at}
 use Rattle.search_log.specs.Stands.{TreeNode, no_node, place_front, searching, IsNoLater, FillSuits, Waiting, Grows}

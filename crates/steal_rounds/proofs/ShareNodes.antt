@@ -1,5 +1,5 @@
 -- The nodes of a share, as visits come.
-use Rattle.std.proofs.Common.{◌≡◌, ℕ, suc, ◌+◌, ◌-◌, ◌<◌, ◌≤◌, inl, inr, refl, sym, ap, subst, ◌∙◌, arith, List, [], ◌∷◌, ◌++◌, length, length-append, map, Option, Some}
+use Rattle.std.proofs.Common.{◌≡◌, ℕ, ◌+◌, ◌-◌, ◌<◌, ◌≤◌, inl, inr, refl, sym, ap, subst, arith, List, [], ◌∷◌, ◌++◌, length, length-append, map, Option, Some}
 use Rattle.std.specs.List.{AllZip}
 use Rattle.std.proofs.lemmas.List.{length-map, map-append}
 use Rattle.rcpsp_model.specs.declared.parts.Entry.{Entry}
@@ -7,8 +7,6 @@ use Rattle.rcpsp_model.specs.declared.parts.Verdict.{Verdict}
 use Rattle.rcpsp_model.specs.Project.{Project, numbers_from}
 use Rattle.rcpsp_model.proofs.Lists.{In}
 use Rattle.rcpsp_model.proofs.Choices.{In-map, zip-append}
-use Rattle.search_log.specs.declared.row.RowFate.{RowFate}
-use Rattle.search_log.specs.declared.row.Row.{Row}
 use Rattle.search_log.specs.declared.row.Fill.{Fill}
 use Rattle.search_log.specs.Weights.{total, over, Each}
 use Rattle.search_log.specs.Fates.{RowSaying, row_open, row_expanded, row_late, row_cites, row_shut, row_saying}

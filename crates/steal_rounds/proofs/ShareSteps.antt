@@ -1,12 +1,12 @@
 -- One visit more of a share.
-use Rattle.std.proofs.Common.{◌≡◌, ℕ, ◌+◌, ◌≤◌, ◌⊎◌, inl, inr, sym, ap, subst, ◌∙◌, arith, List, [], ◌∷◌, ◌++◌, length, map, All, Some}
+use Rattle.std.proofs.Common.{◌≡◌, ℕ, ◌+◌, ◌≤◌, ◌⊎◌, inl, inr, sym, ap, subst, ◌∙◌, arith, List, [], ◌∷◌, ◌++◌, length, map, All}
 use Rattle.std.specs.Prelude.{Contains}
 use Rattle.std.specs.List.{AllZip}
 use Rattle.rcpsp_model.specs.Project.{Project}
 use Rattle.rcpsp_model.specs.Dominance.{Dominates}
 use Rattle.cutset_store.specs.Index.{fronts_of}
 use Rattle.search_log.specs.declared.row.Fill.{Fill}
-use Rattle.search_log.specs.Weights.{total, Each}
+use Rattle.search_log.specs.Weights.{total}
 use Rattle.search_log.specs.Fates.{row_cites, row_saying}
 use Rattle.search_log.specs.Stands.{TreeNode, one_expanded}
 use Rattle.search_log.proofs.Sums.{Each-append}

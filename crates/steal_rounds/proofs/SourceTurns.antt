@@ -1,10 +1,9 @@
 -- What becomes of a share where nodes are taken from the worker's source, or come to it.
-use Rattle.std.proofs.Common.{◌≡◌, ℕ, ◌+◌, ◌<◌, ◌≤◌, inl, inr, refl, sym, ap, subst, ◌∙◌, arith, List, [], ◌∷◌, ◌++◌, length, length-append, map}
-use Rattle.std.specs.Prelude.{Contains}
+use Rattle.std.proofs.Common.{◌≡◌, ℕ, ◌+◌, inl, inr, refl, sym, ap, subst, ◌∙◌, arith, List, [], ◌∷◌, ◌++◌, length, length-append, map}
 use Rattle.std.proofs.lemmas.List.{map-append}
 use Rattle.rcpsp_model.specs.declared.parts.Child.{Child}
 use Rattle.rcpsp_model.specs.Project.{Project}
-use Rattle.rcpsp_model.proofs.Lists.{In, In-from_Contains}
+use Rattle.rcpsp_model.proofs.Lists.{In-from_Contains}
 use Rattle.rcpsp_model.proofs.Choices.{In-map}
 use Rattle.precedence_tree.specs.Node.{NodeState}
 use Rattle.search_log.specs.declared.row.Origin.{Origin}
@@ -22,7 +21,7 @@ use Rattle.node_deques.specs.declared.node.DequeNode.{DequeNode}
 use Rattle.node_deques.specs.Views.{next_node}
 use Rattle.node_sources.specs.Source.{SourceState, waiting, given_by, taken_by, IsSourceOf}
 use Rattle.node_sources.specs.Steps.{IsTakenFrom, from_list, from_own, from_other, Takes, Puts}
-use Rattle.round_shares.specs.Part.{Beginning, PartState}
+use Rattle.round_shares.specs.Part.{Beginning}
 use Rattle.round_shares.specs.Share.{first_place, IsPast, visited, Handled, IsShare}
 use Rattle.round_shares.proofs.SameItems.{same-items}
 use Rattle.steal_rounds.specs.Children.{waiting_child, placed_from}

@@ -1,8 +1,8 @@
 -- A part whose nodes were dealt, or are left, in another order.
-use Rattle.std.proofs.Common.{◌≡◌, ℕ, ◌<◌, ◌≤◌, inl, inr, refl, sym, ap, subst, ◌∙◌, arith, List, [], ◌∷◌, ◌++◌, append-nil, length, map, All}
+use Rattle.std.proofs.Common.{◌≡◌, ℕ, ◌<◌, ◌≤◌, inl, inr, refl, sym, ap, subst, ◌∙◌, arith, List, [], ◌∷◌, ◌++◌, length, All}
 use Rattle.std.specs.Prelude.{Contains, slice_index, slice_index_or}
 use Rattle.std.specs.List.{AllZip}
-use Rattle.std.proofs.lemmas.List.Elements.{All-nil, All-weaker}
+use Rattle.std.proofs.lemmas.List.Elements.{All-weaker}
 use Rattle.rcpsp_model.specs.declared.parts.Entry.{Entry}
 use Rattle.rcpsp_model.specs.Project.{Project}
 use Rattle.rcpsp_model.specs.Dominance.{Dominates}
@@ -13,7 +13,7 @@ use Rattle.cutset_store.specs.Index.{fronts_of}
 use Rattle.search_log.specs.declared.row.Origin.{Origin}
 use Rattle.search_log.specs.declared.row.Row.{Row}
 use Rattle.search_log.specs.Weights.{total, Each}
-use Rattle.search_log.specs.Stands.{TreeNode, searching, Waiting, IsAtPlace, Stands, Grows}
+use Rattle.search_log.specs.Stands.{TreeNode, searching, Waiting, IsAtPlace, Stands}
 use Rattle.search_log.specs.Lean.{end_number}
 use Rattle.search_log.proofs.Sums.{total-map, Each-In, Each-from_In, Each-weaker}
 use Rattle.search_log.proofs.ToldLogs.{expanded-inside}
@@ -23,8 +23,7 @@ use Rattle.search_rounds.specs.declared.round.Records.{Records}
 use Rattle.search_rounds.specs.declared.round.Terms.{Terms}
 use Rattle.search_rounds.specs.Round.{waits_at, waiting_of, IsRecordOf, AreRecords}
 use Rattle.tree_worker.specs.Worker.{Progress}
-use Rattle.round_shares.specs.Ends.{end_in}
-use Rattle.round_shares.specs.Part.{Beginning, BeginsOn, IsByOneOf, PartState, Event, IsEventOf, IsCitedIn, by_earlier, by_own, IsMadeIn, IsCitedLive, IsOffered, IsNewRow, IsPartAt, IsPart}
+use Rattle.round_shares.specs.Part.{Beginning, BeginsOn, IsByOneOf, PartState, Event, IsEventOf, IsCitedIn, by_earlier, by_own, IsOffered, IsNewRow, IsPartAt, IsPart}
 use Rattle.steal_rounds.specs.Dealt.{AreDealt}
 
 -- the second beginning is of the same round, and of the workers of the first and maybe more

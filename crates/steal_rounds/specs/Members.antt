@@ -1,5 +1,5 @@
 -- The workers of a round: how they begin, and what each has done.
-use Rattle.std.specs.Prelude.{◌≡◌, ℕ, ◌+◌, ◌<◌, ◌≤◌, false, List, [], ◌∷◌, length, All}
+use Rattle.std.specs.Prelude.{◌≡◌, ℕ, ◌+◌, ◌<◌, ◌≤◌, false, List, [], ◌∷◌, length}
 use Rattle.atomic_table.specs.Seated.{TableId}
 use Rattle.rcpsp_model.specs.Project.{Project, numbers_from}
 use Rattle.search_rounds.specs.declared.round.Records.{Records}

@@ -1,7 +1,6 @@
-use Rattle.std.proofs.Common.{◌≡◌, ◌+◌, ◌≤◌, ◌++◌, length, vec_len, List, All}
+use Rattle.std.proofs.Common.{◌≡◌, ◌+◌, ◌++◌, length, vec_len, List}
 use Rattle.rcpsp_model.specs.declared.parts.Child.{Child}
 use Rattle.precedence_tree.specs.Node.{NodeState}
-use Rattle.round_shares.specs.Share.{first_place}
 use Rattle.node_sources.specs.Seats.{Stays}
 use Rattle.steal_rounds.specs.Children.{placed_from}
 use Rattle.steal_rounds.specs.Sources.{Gains}

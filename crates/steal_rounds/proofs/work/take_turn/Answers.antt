@@ -1,4 +1,4 @@
-use Rattle.std.proofs.Common.{◌≡◌, ◌∙◌, ◌+◌, refl, ap, arith, ◌∷◌, length}
+use Rattle.std.proofs.Common.{◌≡◌, ◌∙◌, refl, ap, arith, ◌∷◌, length}
 use Rattle.precedence_tree.specs.Node.{NodeState}
 use Rattle.search_rounds.specs.declared.round.WaitingNode.{WaitingNode}
 use Rattle.node_sources.specs.Source.{SourceState, given_by, taken_by}
