@@ -1,5 +1,5 @@
 //! Two workers, each held at some of its passes until the other has come far enough: both are at work at once, one takes a node
-//! from the other, and nodes are closed by records of the other. And a crew of eight.
+//! from the other, and one closes a node by a record of the other. And a crew of eight.
 
 use crate::check_tests::{report_of, shelf_with, text_of};
 use crate::tests::words_of;
