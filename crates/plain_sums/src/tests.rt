@@ -35,6 +35,11 @@ impl Cases {
         }
     }
 
+    /// Whether there are some of each.
+    fn are_all(self) -> bool {
+        0 < self.no_capacity && 0 < self.no_budget && 0 < self.inefficient && 0 < self.placed
+    }
+
     fn count(&mut self, outcome: Outcome) {
         let case = match outcome {
             Outcome::Shut(Shut::NoCapacity(_)) => &mut self.no_capacity,
@@ -115,24 +120,6 @@ fn same_children(rt: &impl Abort, alloc: Global, subject: &Subject) -> Result<Ca
     Ok(cases)
 }
 
-#[test]
-fn children(rt: HostRuntime) -> Result<(), Fail> {
-    let eighteen = eighteen_jobs(&rt, rt.alloc())?;
-    same_children(&rt, rt.alloc(), &eighteen)?;
-    let breaks = with_breaks(&rt, rt.alloc())?;
-    same_children(&rt, rt.alloc(), &breaks)?;
-    Ok(())
-}
-
-#[test]
-fn children_of_most_jobs(rt: HostRuntime) -> Result<(), Fail> {
-    let most = most_jobs(&rt, rt.alloc())?;
-    let cases = same_children(&rt, rt.alloc(), &most)?;
-    assert!(rt; 0 < cases.no_capacity && 0 < cases.no_budget);
-    assert!(rt; 0 < cases.inefficient && 0 < cases.placed);
-    Ok(())
-}
-
 /// Compares the work bounds of a node with those of its front.
 fn compare_works(rt: &impl Abort, project: &Project, node: &Node, front: &[Entry])
     requires { StandsFor project.now node.now }
@@ -188,22 +175,6 @@ fn same_bounds(rt: &impl Abort, alloc: Global, subject: &Subject) -> Result<u32,
     Ok(gaps)
 }
 
-#[test]
-fn bounds(rt: HostRuntime) -> Result<(), Fail> {
-    let eighteen = eighteen_jobs(&rt, rt.alloc())?;
-    same_bounds(&rt, rt.alloc(), &eighteen)?;
-    let breaks = with_breaks(&rt, rt.alloc())?;
-    assert!(rt; 0 < same_bounds(&rt, rt.alloc(), &breaks)?);
-    Ok(())
-}
-
-#[test]
-fn bounds_of_most_jobs(rt: HostRuntime) -> Result<(), Fail> {
-    let most = most_jobs(&rt, rt.alloc())?;
-    assert!(rt; 0 < same_bounds(&rt, rt.alloc(), &most)?);
-    Ok(())
-}
-
 /// How many pairs of different fronts there are that have the same jobs.
 #[derive(Clone, Copy)]
 struct Pairs {
@@ -219,6 +190,11 @@ impl Pairs {
             dominating: 0,
             other: 0,
         }
+    }
+
+    /// Whether there are some of either.
+    fn are_both(self) -> bool {
+        0 < self.dominating && 0 < self.other
     }
 
     fn count(&mut self, dominates: bool) {
@@ -274,25 +250,6 @@ fn same_dominance(rt: &impl Abort, alloc: Global, subject: &Subject) -> Result<P
         compare_with(rt, alloc, subject, b.as_slice(), &mut pairs)?;
     }
     Ok(pairs)
-}
-
-#[test]
-fn dominance(rt: HostRuntime) -> Result<(), Fail> {
-    let eighteen = eighteen_jobs(&rt, rt.alloc())?;
-    let pairs = same_dominance(&rt, rt.alloc(), &eighteen)?;
-    assert!(rt; 0 < pairs.dominating && 0 < pairs.other);
-    let breaks = with_breaks(&rt, rt.alloc())?;
-    let pairs = same_dominance(&rt, rt.alloc(), &breaks)?;
-    assert!(rt; 0 < pairs.dominating && 0 < pairs.other);
-    Ok(())
-}
-
-#[test]
-fn dominance_of_most_jobs(rt: HostRuntime) -> Result<(), Fail> {
-    let most = most_jobs(&rt, rt.alloc())?;
-    let pairs = same_dominance(&rt, rt.alloc(), &most)?;
-    assert!(rt; 0 < pairs.dominating && 0 < pairs.other);
-    Ok(())
 }
 
 /// The place of the first of these fronts that dominates the other.
@@ -361,18 +318,44 @@ fn same_found(rt: &impl Abort, alloc: Global, subject: &Subject) -> Result<(), N
     Ok(())
 }
 
+/// What the fronts of a subject show.
+#[derive(Clone, Copy)]
+struct Shown {
+    cases: Cases,
+    /// How many fronts have a gap.
+    gaps: u32,
+    pairs: Pairs,
+}
+
+/// Compares children, bounds, dominance and what an index finds.
+fn compare_all(rt: &impl Abort, alloc: Global, subject: &Subject) -> Result<Shown, NoMemory> {
+    let cases = same_children(rt, alloc, subject)?;
+    let gaps = same_bounds(rt, alloc, subject)?;
+    let pairs = same_dominance(rt, alloc, subject)?;
+    same_found(rt, alloc, subject)?;
+    Ok(Shown { cases, gaps, pairs })
+}
+
 #[test]
-fn found(rt: HostRuntime) -> Result<(), Fail> {
-    let eighteen = eighteen_jobs(&rt, rt.alloc())?;
-    same_found(&rt, rt.alloc(), &eighteen)?;
-    let breaks = with_breaks(&rt, rt.alloc())?;
-    same_found(&rt, rt.alloc(), &breaks)?;
+fn fronts_of_eighteen_jobs(rt: HostRuntime) -> Result<(), Fail> {
+    let subject = eighteen_jobs(&rt, rt.alloc())?;
+    let shown = compare_all(&rt, rt.alloc(), &subject)?;
+    assert!(rt; shown.pairs.are_both());
     Ok(())
 }
 
 #[test]
-fn found_of_most_jobs(rt: HostRuntime) -> Result<(), Fail> {
-    let most = most_jobs(&rt, rt.alloc())?;
-    same_found(&rt, rt.alloc(), &most)?;
+fn fronts_with_breaks(rt: HostRuntime) -> Result<(), Fail> {
+    let subject = with_breaks(&rt, rt.alloc())?;
+    let shown = compare_all(&rt, rt.alloc(), &subject)?;
+    assert!(rt; 0 < shown.gaps && shown.pairs.are_both());
+    Ok(())
+}
+
+#[test]
+fn fronts_of_most_jobs(rt: HostRuntime) -> Result<(), Fail> {
+    let subject = most_jobs(&rt, rt.alloc())?;
+    let shown = compare_all(&rt, rt.alloc(), &subject)?;
+    assert!(rt; 0 < shown.gaps && shown.cases.are_all() && shown.pairs.are_both());
     Ok(())
 }
