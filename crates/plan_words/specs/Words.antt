@@ -3,8 +3,10 @@ use Rattle.std.specs.Prelude.{◌≡◌, ℕ, ◌+◌, ◌≤◌, ◌⊎◌, Boo
 use Rattle.std.specs.List.{slice_index_or}
 use Rattle.std.specs.Str.{bytes_eq}
 use Rattle.psplib_lex.specs.Number.{is_number, digits_value}
-use Rattle.plan_words.specs.declared.words.Command.{Command}
-use Rattle.plan_words.specs.declared.words.Command.TheVariants as commands
+use Rattle.plan_words.specs.declared.command.Request.{Request}
+use Rattle.plan_words.specs.declared.command.Recipe.{Recipe}
+use Rattle.plan_words.specs.declared.command.Command.{Command}
+use Rattle.plan_words.specs.declared.command.Command.TheVariants as commands
 
 -- ---- what a word has to be
 
@@ -226,24 +228,43 @@ yes_behind key default (word ∷ words) = if begins_with key word then is_yes (d
 abbrev pub prints_log : List (List ℕ) → Bool
 prints_log words = yes_behind (codes "log=") true (drop 2 words)
 
+-- the words of `solve` ask for this
+pub record IsRequest (words : List (List ℕ)) (request : Request) : Type 0 where
+  pub workers : request.workers ≡ workers_in words
+  pub nodes : request.nodes ≡ nodes_in words
+  pub tries : request.tries ≡ tries_in words
+  pub log : request.log ≡ prints_log words
+
+-- the words of `make` or `trial` speak of what is made from this
+pub record IsRecipe (words : List (List ℕ)) (recipe : Recipe) : Type 0 where
+  pub seed : recipe.seed ≡ seed_in words
+  pub jobs : recipe.jobs ≡ jobs_in words
+  pub modes : recipe.modes ≡ modes_in words
+
 -- the words are this command
 abbrev pub IsCommand : List (List ℕ) → Command → Type 0
-IsCommand words (commands.Solve project workers nodes log tries) =
-    IsSolve words × (project.now ≡ project_name words) × (workers ≡ workers_in words) × (nodes ≡ nodes_in words) × (log ≡ prints_log words) × (tries ≡ tries_in words)
+IsCommand words (commands.Solve project request) = IsSolve words × (project.now ≡ project_name words) × IsRequest words request
 IsCommand words (commands.Check project report) = IsCheck words × (project.now ≡ project_name words) × (report.now ≡ report_name words)
 IsCommand words (commands.Show project) = IsShow words × (project.now ≡ project_name words)
-IsCommand words (commands.Make seed jobs modes) = IsMake words × (seed ≡ seed_in words) × (jobs ≡ jobs_in words) × (modes ≡ modes_in words)
-IsCommand words (commands.Trial seed jobs modes workers nodes) =
-    IsTrial words × (seed ≡ seed_in words) × (jobs ≡ jobs_in words) × (modes ≡ modes_in words) × (workers ≡ trial_workers_in words) × (nodes ≡ trial_nodes_in words)
+IsCommand words (commands.Make recipe) = IsMake words × IsRecipe words recipe
+IsCommand words (commands.Trial recipe workers nodes) = IsTrial words × IsRecipe words recipe × (workers ≡ trial_workers_in words) × (nodes ≡ trial_nodes_in words)
 IsCommand words (commands.Plan project tries) = IsPlan words × (project.now ≡ project_name words) × (tries ≡ tries_in words)
 IsCommand words (commands.Bound project) = IsBound words × (project.now ≡ project_name words)
 IsCommand words (commands.Verify project bound) = IsVerify words × (project.now ≡ project_name words) × (bound.now ≡ bound_name words)
 
--- the numbers are such that a project can be made, or searched by so many workers up to so many expansions after so many tries
+-- a search can run by so many workers, up to so many expansions, after so many tries
+abbrev pub IsWithinSearch : Request → Type 0
+IsWithinSearch request = (1 ≤ request.workers) × (request.workers ≤ 32) × (request.nodes ≤ 100000) × (request.tries ≤ 1000000)
+
+-- a project can be made from these numbers
+abbrev pub CanBeMade : Recipe → Type 0
+CanBeMade recipe = (3 ≤ recipe.jobs) × (recipe.jobs ≤ 128) × (1 ≤ recipe.modes) × (recipe.modes ≤ 4)
+
+-- the numbers of the command are such that it can be carried out
 abbrev pub IsWithinReach : Command → Type 0
-IsWithinReach (commands.Solve project workers nodes log tries) = (1 ≤ workers) × (workers ≤ 32) × (nodes ≤ 100000) × (tries ≤ 1000000)
-IsWithinReach (commands.Make seed jobs modes) = (3 ≤ jobs) × (jobs ≤ 128) × (1 ≤ modes) × (modes ≤ 4)
-IsWithinReach (commands.Trial seed jobs modes workers nodes) = ((3 ≤ jobs) × (jobs ≤ 128) × (1 ≤ modes) × (modes ≤ 4)) × (1 ≤ workers) × (workers ≤ 32) × (nodes ≤ 100000)
+IsWithinReach (commands.Solve project request) = IsWithinSearch request
+IsWithinReach (commands.Make recipe) = CanBeMade recipe
+IsWithinReach (commands.Trial recipe workers nodes) = CanBeMade recipe × (1 ≤ workers) × (workers ≤ 32) × (nodes ≤ 100000)
 IsWithinReach (commands.Check project report) = Unit {0}
 IsWithinReach (commands.Show project) = Unit {0}
 IsWithinReach (commands.Plan project tries) = tries ≤ 1000000

@@ -1,70 +1,11 @@
 ghost use Rattle.std.specs.Prelude.{◌≡◌, ◌≤◌, ◌+◌, ◌∷◌, [], map, length, drop, codes, string_bytes, true, Some, None, IfOk, IfErr, OnOk};
 ghost use Rattle.psplib_lex.specs.Number.{digits_value};
-ghost use Rattle.plan_words.specs.declared.words.Command.TheVariants as commands;
 ghost use Rattle.plan_words.specs.Options.{free_forms, AreWithin, ComeTo};
-ghost use Rattle.plan_words.specs.Words.{first_bad, is_name, is_seed, is_jobs, modes_form, workers_form, nodes_form, log_form, tries_form, bad_word, word_at, number_behind, yes_behind, IsCommand, IsWithinReach};
+ghost use Rattle.plan_words.specs.Words.{first_bad, is_name, is_seed, is_jobs, modes_form, workers_form, nodes_form, log_form, tries_form, bad_word, word_at, number_behind, yes_behind, IsCommand, IsWithinSearch, CanBeMade, IsWithinReach};
 
+use crate::command::{BadWords, Command, Recipe, Request};
 use crate::number::number_within;
 use crate::options::{Choice, Options};
-
-/// A command of the program, with its words.
-#[derive(Clone, Copy, Debug, PartialEq, Eq)]
-pub enum Command<'w> {
-    /// Solve the project under this name, by 1 to 32 workers and at most so many expansions, up to 100,000; and print the log,
-    /// or leave it out. The search begins with the plan of so many tries, up to 1,000,000, or with the first plan where there
-    /// are none.
-    Solve {
-        project: &'w str,
-        workers: u32,
-        nodes: u32,
-        log: bool,
-        tries: u32,
-    },
-    /// Judge the report under a name, as one on the project under this name.
-    Check {
-        project: &'w str,
-        report: &'w str,
-    },
-    /// Print the project under this name.
-    Show {
-        project: &'w str,
-    },
-    /// Print the project that is made from this seed: 3 to 128 jobs, with 1 to 4 modes.
-    Make {
-        seed: u32,
-        jobs: u8,
-        modes: u8,
-    },
-    /// Solve the project that is made so, by so many workers and at most so many expansions.
-    Trial {
-        seed: u32,
-        jobs: u8,
-        modes: u8,
-        workers: u32,
-        nodes: u32,
-    },
-    /// Print a plan of the project under this name, after so many tries, up to 1,000,000.
-    Plan {
-        project: &'w str,
-        tries: u32,
-    },
-    /// Print a bound of the project under this name, before which none of its plans can end, with the steps that show it.
-    Bound {
-        project: &'w str,
-    },
-    /// Judge the text of a bound under a name, as one of the project under this name.
-    Verify {
-        project: &'w str,
-        bound: &'w str,
-    },
-}
-
-/// Words that are no command.
-#[derive(Clone, Copy, Debug, PartialEq, Eq)]
-pub struct BadWords {
-    /// The place, from 1, of the first word that can't stand, or one past the last where a word is missing.
-    pub place: u32,
-}
 
 /// The options where no word may give one: one mode, one worker, 50,000 expansions, the log, and no tries.
 const NONE: Options = Options {
@@ -172,14 +113,8 @@ pub fn parse_words(words: &[String]) -> Result<Command<'_>, BadWords>
 {
     match words {
         [command, rest @ ..] if command.as_str() == "solve" => {
-            let (project, options) = parse_solve(rest)?;
-            Ok(Command::Solve {
-                project,
-                workers: options.workers.value,
-                nodes: options.nodes.value,
-                log: options.log.value,
-                tries: options.tries.value,
-            })
+            let (project, request) = parse_solve(rest)?;
+            Ok(Command::Solve { project, request })
         }
         [command, rest @ ..] if command.as_str() == "check" => {
             let (project, report) = parse_two_names(rest)?;
@@ -190,22 +125,19 @@ pub fn parse_words(words: &[String]) -> Result<Command<'_>, BadWords>
             Ok(Command::Show { project })
         }
         [command, rest @ ..] if command.as_str() == "make" => {
-            let (seed, jobs, modes) = parse_make(rest)?;
-            Ok(Command::Make { seed, jobs, modes })
+            let recipe = parse_make(rest)?;
+            Ok(Command::Make(recipe))
         }
         [command, rest @ ..] if command.as_str() == "trial" => {
-            let (seed, jobs, options) = parse_trial(rest)?;
+            let (recipe, workers, nodes) = parse_trial(rest)?;
             Ok(Command::Trial {
-                seed,
-                jobs,
-                modes: options.modes.value as u8,
-                workers: options.workers.value,
-                nodes: options.nodes.value,
+                recipe,
+                workers,
+                nodes,
             })
         }
         [command, rest @ ..] if command.as_str() == "plan" => {
-            let (project, options) = parse_plan(rest)?;
-            let tries = options.tries.value;
+            let (project, tries) = parse_plan(rest)?;
             Ok(Command::Plan { project, tries })
         }
         [command, rest @ ..] if command.as_str() == "bound" => {
@@ -220,29 +152,37 @@ pub fn parse_words(words: &[String]) -> Result<Command<'_>, BadWords>
     }
 }
 
-/// The name and the options among the words after `solve`.
-fn parse_solve(words: &[String]) -> Result<(&str, Options), BadWords>
+/// The name and the request in the words after `solve`.
+fn parse_solve(words: &[String]) -> Result<(&str, Request), BadWords>
     ensures command { OnOk result (first_bad (is_name ∷ []) (workers_form ∷ nodes_form ∷ log_form ∷ tries_form ∷ []) (map string_bytes words.now) 2 ≡ None) }
     ensures fault { IfErr result (λ bad. first_bad (is_name ∷ []) (workers_form ∷ nodes_form ∷ log_form ∷ tries_form ∷ []) (map string_bytes words.now) 2 ≡ Some bad.place) }
     ensures name { IfOk result (λ solve. solve.0.now ≡ word_at (map string_bytes words.now) 0) }
-    ensures workers { IfOk result (λ solve. solve.1.workers.value ≡ number_behind (codes "workers=") 1 (drop 1 (map string_bytes words.now))) }
-    ensures nodes { IfOk result (λ solve. solve.1.nodes.value ≡ number_behind (codes "nodes=") 50000 (drop 1 (map string_bytes words.now))) }
-    ensures log { IfOk result (λ solve. solve.1.log.value ≡ yes_behind (codes "log=") true (drop 1 (map string_bytes words.now))) }
-    ensures tries { IfOk result (λ solve. solve.1.tries.value ≡ number_behind (codes "tries=") 0 (drop 1 (map string_bytes words.now))) }
-    ensures range { IfOk result (λ solve. AreWithin solve.1) }
+    ensures workers { IfOk result (λ solve. solve.1.workers ≡ number_behind (codes "workers=") 1 (drop 1 (map string_bytes words.now))) }
+    ensures nodes { IfOk result (λ solve. solve.1.nodes ≡ number_behind (codes "nodes=") 50000 (drop 1 (map string_bytes words.now))) }
+    ensures tries { IfOk result (λ solve. solve.1.tries ≡ number_behind (codes "tries=") 0 (drop 1 (map string_bytes words.now))) }
+    ensures log { IfOk result (λ solve. solve.1.log ≡ yes_behind (codes "log=") true (drop 1 (map string_bytes words.now))) }
+    ensures range { IfOk result (λ solve. IsWithinSearch solve.1) }
 {
-    parse_named(words, SOLVE)
+    let (project, options) = parse_named(words, SOLVE)?;
+    let request = Request {
+        workers: options.workers.value,
+        nodes: options.nodes.value,
+        tries: options.tries.value,
+        log: options.log.value,
+    };
+    Ok((project, request))
 }
 
-/// The name and the option among the words after `plan`.
-fn parse_plan(words: &[String]) -> Result<(&str, Options), BadWords>
+/// The name and the number of tries in the words after `plan`.
+fn parse_plan(words: &[String]) -> Result<(&str, u32), BadWords>
     ensures command { OnOk result (first_bad (is_name ∷ []) (tries_form ∷ []) (map string_bytes words.now) 2 ≡ None) }
     ensures fault { IfErr result (λ bad. first_bad (is_name ∷ []) (tries_form ∷ []) (map string_bytes words.now) 2 ≡ Some bad.place) }
     ensures name { IfOk result (λ plan. plan.0.now ≡ word_at (map string_bytes words.now) 0) }
-    ensures tries { IfOk result (λ plan. plan.1.tries.value ≡ number_behind (codes "tries=") 0 (drop 1 (map string_bytes words.now))) }
-    ensures range { IfOk result (λ plan. AreWithin plan.1) }
+    ensures tries { IfOk result (λ plan. plan.1 ≡ number_behind (codes "tries=") 0 (drop 1 (map string_bytes words.now))) }
+    ensures range { IfOk result (λ plan. plan.1 ≤ 1000000) }
 {
-    parse_named(words, PLAN)
+    let (project, options) = parse_named(words, PLAN)?;
+    Ok((project, options.tries.value))
 }
 
 /// The name of a project and the options behind it.
@@ -307,32 +247,36 @@ fn parse_two_names(words: &[String]) -> Result<(&str, &str), BadWords>
     }
 }
 
-/// The seed, the number of jobs and the number of modes in the words after `make`.
-fn parse_make(words: &[String]) -> Result<(u32, u8, u8), BadWords>
+/// What a project is made from, in the words after `make`.
+fn parse_make(words: &[String]) -> Result<Recipe, BadWords>
     ensures command { OnOk result (first_bad (is_seed ∷ is_jobs ∷ []) (modes_form ∷ []) (map string_bytes words.now) 2 ≡ None) }
     ensures fault { IfErr result (λ bad. first_bad (is_seed ∷ is_jobs ∷ []) (modes_form ∷ []) (map string_bytes words.now) 2 ≡ Some bad.place) }
-    ensures seed { IfOk result (λ made. made.0 ≡ digits_value (word_at (map string_bytes words.now) 0)) }
-    ensures jobs { IfOk result (λ made. made.1 ≡ digits_value (word_at (map string_bytes words.now) 1)) }
-    ensures modes { IfOk result (λ made. made.2 ≡ number_behind (codes "modes=") 1 (drop 2 (map string_bytes words.now))) }
-    ensures range { IfOk result (λ made. IsWithinReach (commands.Make made.0 made.1 made.2)) }
+    ensures seed { IfOk result (λ recipe. recipe.seed ≡ digits_value (word_at (map string_bytes words.now) 0)) }
+    ensures jobs { IfOk result (λ recipe. recipe.jobs ≡ digits_value (word_at (map string_bytes words.now) 1)) }
+    ensures modes { IfOk result (λ recipe. recipe.modes ≡ number_behind (codes "modes=") 1 (drop 2 (map string_bytes words.now))) }
+    ensures range { IfOk result CanBeMade }
 {
     let (seed, jobs, options) = parse_made(words, MAKE)?;
-    Ok((seed, jobs, options.modes.value as u8))
+    let modes = options.modes.value as u8;
+    Ok(Recipe { seed, jobs, modes })
 }
 
-/// The seed, the number of jobs and the options in the words after `trial`.
-fn parse_trial(words: &[String]) -> Result<(u32, u8, Options), BadWords>
+/// What a project is made from, and the numbers of workers and of expansions, in the words after `trial`.
+fn parse_trial(words: &[String]) -> Result<(Recipe, u32, u32), BadWords>
     ensures command { OnOk result (first_bad (is_seed ∷ is_jobs ∷ []) (modes_form ∷ workers_form ∷ nodes_form ∷ []) (map string_bytes words.now) 2 ≡ None) }
     ensures fault { IfErr result (λ bad. first_bad (is_seed ∷ is_jobs ∷ []) (modes_form ∷ workers_form ∷ nodes_form ∷ []) (map string_bytes words.now) 2 ≡ Some bad.place) }
-    ensures seed { IfOk result (λ trial. trial.0 ≡ digits_value (word_at (map string_bytes words.now) 0)) }
-    ensures jobs { IfOk result (λ trial. trial.1 ≡ digits_value (word_at (map string_bytes words.now) 1)) }
-    ensures modes { IfOk result (λ trial. trial.2.modes.value ≡ number_behind (codes "modes=") 1 (drop 2 (map string_bytes words.now))) }
-    ensures workers { IfOk result (λ trial. trial.2.workers.value ≡ number_behind (codes "workers=") 1 (drop 2 (map string_bytes words.now))) }
-    ensures nodes { IfOk result (λ trial. trial.2.nodes.value ≡ number_behind (codes "nodes=") 50000 (drop 2 (map string_bytes words.now))) }
-    ensures size { IfOk result (λ trial. (3 ≤ trial.1) × (trial.1 ≤ 128)) }
-    ensures range { IfOk result (λ trial. AreWithin trial.2) }
+    ensures seed { IfOk result (λ trial. trial.0.seed ≡ digits_value (word_at (map string_bytes words.now) 0)) }
+    ensures jobs { IfOk result (λ trial. trial.0.jobs ≡ digits_value (word_at (map string_bytes words.now) 1)) }
+    ensures modes { IfOk result (λ trial. trial.0.modes ≡ number_behind (codes "modes=") 1 (drop 2 (map string_bytes words.now))) }
+    ensures workers { IfOk result (λ trial. trial.1 ≡ number_behind (codes "workers=") 1 (drop 2 (map string_bytes words.now))) }
+    ensures nodes { IfOk result (λ trial. trial.2 ≡ number_behind (codes "nodes=") 50000 (drop 2 (map string_bytes words.now))) }
+    ensures recipe { IfOk result (λ trial. CanBeMade trial.0) }
+    ensures range { IfOk result (λ trial. (1 ≤ trial.1) × (trial.1 ≤ 32) × (trial.2 ≤ 100000)) }
 {
-    parse_made(words, TRIAL)
+    let (seed, jobs, options) = parse_made(words, TRIAL)?;
+    let modes = options.modes.value as u8;
+    let recipe = Recipe { seed, jobs, modes };
+    Ok((recipe, options.workers.value, options.nodes.value))
 }
 
 /// The seed, the number of jobs and the options in the words of a made project.

@@ -107,7 +107,8 @@ fn words_after_name<R: Env + AllocGlobal>(rt: &R) -> Result<Vec<String>, AllocEr
 /// How many nodes the words allow a search to expand; none where they are no search.
 fn nodes_of(words: &[String]) -> Option<u32> {
     match parse_words(words) {
-        Ok(Command::Solve { nodes, .. } | Command::Trial { nodes, .. }) => Some(nodes),
+        Ok(Command::Solve { request, .. }) => Some(request.nodes),
+        Ok(Command::Trial { nodes, .. }) => Some(nodes),
         _ => None,
     }
 }

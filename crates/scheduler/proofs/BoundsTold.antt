@@ -1,7 +1,6 @@
 -- What `bound` and `verify` told, where the answer is one to their words.
-use Rattle.std.proofs.Common.{◌≡◌, ℕ, inl, inr, refl, sym, ap, subst, ◌∙◌, List, Option, None, Some}
+use Rattle.std.proofs.Common.{◌≡◌, ℕ, inl, inr, refl, sym, subst, ◌∙◌, List, Option, None, Some}
 use Rattle.std.specs.Prelude.{Result, Ok, Err}
-use Rattle.rcpsp_model.specs.Project.{Project}
 use Rattle.sched_base.specs.Outside.{Gains}
 use Rattle.bound_checker.specs.declared.checker.BoundRefusal.{BoundRefusal}
 use Rattle.bound_checker.specs.Judged.{AcceptsBound}

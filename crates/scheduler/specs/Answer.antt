@@ -27,7 +27,6 @@ use Rattle.scheduler.specs.declared.answer.Judgement.TheVariants as judgements
 use Rattle.scheduler.specs.declared.answer.Outcome.{Outcome}
 use Rattle.scheduler.specs.declared.answer.Outcome.TheVariants as outcomes
 use Rattle.scheduler.specs.declared.planning.Plan.{Plan}
-use Rattle.scheduler.specs.declared.solving.Request.{Request}
 use Rattle.scheduler.specs.declared.status.Status.{Status}
 use Rattle.scheduler.specs.declared.status.Status.TheVariants as statuses
 use Rattle.log_truth.specs.Holds.{Accepts}
@@ -170,14 +169,6 @@ text_of (answers.BadWords bad) = codes "bad words: word " ++ line (decimal bad.p
 -- the report of a search as the words ask for it
 abbrev pub IsReportTo : List (List ℕ) → Project → Report → Type 0
 IsReportTo words P told = IsSolve words × IsSearched P (workers_in words) (nodes_in words) (tries_in words) (prints_log words) told
-
--- the words are `solve`, and ask for this
-pub record IsRequest (words : List (List ℕ)) (request : Request) : Type 0 where
-  pub solve : IsSolve words
-  pub workers : request.workers ≡ workers_in words
-  pub nodes : request.nodes ≡ nodes_in words
-  pub tries : request.tries ≡ tries_in words
-  pub log : request.log ≡ prints_log words
 
 -- the text is read as a project, and this is what the words ask for: a report on it, a plan of it, its canonical text, or the text
 -- of its window bound; or this is the first refusal of the text

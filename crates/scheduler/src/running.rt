@@ -5,22 +5,22 @@ ghost use Rattle.scheduler.specs.declared.answer.Answer.TheVariants as answers;
 ghost use Rattle.scheduler.specs.declared.stop.Stop.TheVariants as stops;
 ghost use Rattle.project_net.specs.Canonical.{canonical};
 ghost use Rattle.project_gen.specs.Made.{made};
-ghost use Rattle.plan_words.specs.Words.{bad_word, IsSolve, IsCheck, IsShow, IsPlan, IsBound, IsVerify, IsMake, IsTrial, IsOnProject, IsPrint, workers_in, nodes_in, tries_in, prints_log};
+ghost use Rattle.plan_words.specs.Words.{bad_word, IsRequest, CanBeMade, IsSolve, IsCheck, IsShow, IsPlan, IsBound, IsVerify, IsMake, IsTrial, IsOnProject, IsPrint, workers_in, nodes_in, tries_in, prints_log};
 ghost use Rattle.scheduler.specs.Solve.{IsSolution, IsNoLaterThanFirst, ExpandsNoTwins, HasAtMostFronts};
 ghost use Rattle.scheduler.specs.Status.{IsSolved, IsServed, IsTold, IsFaultless};
-ghost use Rattle.scheduler.specs.Answer.{IsRequest, IsOutcomeOf, IsAnswerTo, IsTellable, HasProject, NamesNoProject, Runs, WhereSolved, TellsAccepted, TellsPlan, TellsBound, Judges, Verifies, Tries, text_of};
+ghost use Rattle.scheduler.specs.Answer.{IsOutcomeOf, IsTrialOf, IsAnswerTo, IsTellable, HasProject, NamesNoProject, Runs, WhereSolved, TellsAccepted, TellsPlan, TellsBound, Judges, Verifies, Tries, text_of};
 
 use crate::answer::{Answer, Outcome, Trial};
 use crate::bounding::bound_for;
 use crate::judging::checked;
 use crate::planning::planned;
 use crate::reading::read_text;
-use crate::solving::{Request, report_on, verdict_on};
+use crate::solving::{report_on, verdict_on};
 use crate::status::Status;
 use crate::stop::Stop;
 use crate::tell::{Untold, tell};
 use crate::verifying::verified;
-use plan_words::{Command, parse_words};
+use plan_words::{Command, Recipe, Request, parse_words};
 use project_gen::make;
 use project_net::print_project;
 use psplib_layout::ReadError;
@@ -40,7 +40,7 @@ fn solution_of<R: Threads + Sync, G: Gate + Sync>(
     requires some { 1 ≤ request.workers }
     requires few { request.workers ≤ 32 }
     requires nodes { request.nodes ≤ 100000 }
-    ensures outcome { IfOk result (λ outcome. (words : List (List ℕ)) → IsRequest words request → IsOutcomeOf words text.now outcome) }
+    ensures outcome { IfOk result (λ outcome. (words : List (List ℕ)) → IsSolve words → IsRequest words request → IsOutcomeOf words text.now outcome) }
     ensures text { IfOk result (λ outcome. IsTellable (answers.Read outcome)) }
     ensures memory { result ≡ Err stops.ReadFault → ⊥ }
 {
@@ -78,16 +78,39 @@ fn plan_for(alloc: Global, text: &[u8], tries: u32) -> Result<Outcome, Stop>
 }
 
 /// The canonical text of a made project.
-fn made_text(alloc: Global, seed: u32, jobs: u8, modes: u8) -> Result<Vec<u8>, Stop>
-    requires some { 3 ≤ jobs }
-    requires few { jobs ≤ 128 }
-    requires some_mode { 1 ≤ modes }
-    requires few_modes { modes ≤ 4 }
-    ensures text { IfOk result (λ text. text.items ≡ canonical (made seed jobs modes)) }
+fn made_text(alloc: Global, recipe: Recipe) -> Result<Vec<u8>, Stop>
+    requires { CanBeMade recipe }
+    ensures text { IfOk result (λ text. text.items ≡ canonical (made recipe.seed recipe.jobs recipe.modes)) }
     ensures memory { result ≡ Err stops.ReadFault → ⊥ }
 {
-    let project = make(alloc, u64::from(seed), jobs, modes)?;
+    let project = make(alloc, u64::from(recipe.seed), recipe.jobs, recipe.modes)?;
     Ok(print_project(alloc, &project)?)
+}
+
+/// What a made project comes to where it is solved.
+fn trial_of<R: Threads + Sync, G: Gate + Sync>(
+    rt: &R,
+    alloc: Global,
+    gate: &G,
+    recipe: Recipe,
+    workers: u32,
+    nodes: u32,
+) -> Result<Trial, Stop>
+    requires recipe { CanBeMade recipe }
+    requires some { 1 ≤ workers }
+    requires few { workers ≤ 32 }
+    requires nodes { nodes ≤ 100000 }
+    ensures trial { IfOk result (IsTrialOf recipe.seed recipe.jobs recipe.modes workers nodes) }
+    ensures memory { result ≡ Err stops.ReadFault → ⊥ }
+{
+    let Recipe { seed, jobs, modes } = recipe;
+    let project = make(alloc, u64::from(seed), jobs, modes)?;
+    let verdict = verdict_on(rt, alloc, gate, &project, workers, nodes)?;
+    Ok(Trial {
+        jobs,
+        modes,
+        verdict,
+    })
 }
 
 /// The answer to the words.
@@ -107,22 +130,8 @@ fn answer_to<R: Threads + Sync, S: Shelf, G: Gate + Sync>(
     ensures untouched { IsTrial (map string_bytes words.now) → shelf.new ≡ shelf.old }
 {
     match parse_words(words) {
-        Ok(
-            Command::Solve {
-                project,
-                workers,
-                nodes,
-                log,
-                tries,
-            },
-        ) => {
+        Ok(Command::Solve { project, request }) => {
             let text = read_text(alloc, shelf, project)?;
-            let request = Request {
-                workers,
-                nodes,
-                tries,
-                log,
-            };
             Ok(Answer::Read(solution_of(rt, alloc, gate, &text, request)?))
         }
         Ok(Command::Check { project, report }) => checked(alloc, shelf, project, report),
@@ -141,24 +150,15 @@ fn answer_to<R: Threads + Sync, S: Shelf, G: Gate + Sync>(
         }
         Ok(
             Command::Trial {
-                seed,
-                jobs,
-                modes,
+                recipe,
                 workers,
                 nodes,
             },
         ) => {
-            let project = make(alloc, u64::from(seed), jobs, modes)?;
-            let verdict = verdict_on(rt, alloc, gate, &project, workers, nodes)?;
-            Ok(Answer::Tried(Trial {
-                jobs,
-                modes,
-                verdict,
-            }))
+            let trial = trial_of(rt, alloc, gate, recipe, workers, nodes)?;
+            Ok(Answer::Tried(trial))
         }
-        Ok(Command::Make { seed, jobs, modes }) => Ok(Answer::Made(made_text(
-            alloc, seed, jobs, modes,
-        )?)),
+        Ok(Command::Make(recipe)) => Ok(Answer::Made(made_text(alloc, recipe)?)),
         Err(bad) => Ok(Answer::BadWords(bad)),
     }
 }
@@ -259,14 +259,11 @@ pub fn run<R: Threads + Sync, S: Shelf, K: Sink, G: Gate + Sync>(
     ensures makes { IsMake (map string_bytes words.now) → IsFaultless (K.faults out.old) (K.faults out.new) → (result ≡ Status.NoMemory → ⊥) → result ≡ Status.Done }
 {
     match answer_to(rt, alloc, words, shelf, gate) {
-        Ok(answer) => {
-            let status = answer.status();
-            match tell(alloc, out, &answer) {
-                Ok(()) => status,
-                Err(Untold::WriteFault) => Status::WriteFault,
-                Err(Untold::NoMemory) => Status::NoMemory,
-            }
-        }
+        Ok(answer) => match tell(alloc, out, &answer) {
+            Ok(status) => status,
+            Err(Untold::WriteFault) => Status::WriteFault,
+            Err(Untold::NoMemory) => Status::NoMemory,
+        },
         Err(Stop::ReadFault) => Status::ReadFault,
         Err(Stop::NoMemory) => Status::NoMemory,
     }

@@ -7,6 +7,7 @@ ghost use Rattle.scheduler.specs.Solve.{IsEndedFromStart, IsSearched, IsSearched
 
 use crate::planning::start_of;
 use log_truth::true_claim;
+use plan_words::Request;
 use project_net::Project;
 use proof_log::{Report, Verdict};
 use sched_base::{Gate, NoMemory};
@@ -14,19 +15,6 @@ use search_rounds::{Ended, Found, told_report};
 use std::alloc::Global;
 use std::thread::Threads;
 use steal_rounds::search_from;
-
-/// How a search is to run, and what is to be told of it.
-#[derive(Clone, Copy, Debug, PartialEq, Eq)]
-pub struct Request {
-    /// How many workers search, 1 to 32.
-    pub workers: u32,
-    /// How many nodes they may expand, at most 100,000.
-    pub nodes: u32,
-    /// How many tries make the plan that the search begins with; none where it begins with the first plan.
-    pub tries: u32,
-    /// Whether the log is told.
-    pub log: bool,
-}
 
 /// The end of the search of the workers.
 fn ended_by<R: Threads + Sync, G: Gate + Sync>(

@@ -1,10 +1,11 @@
 ghost use Rattle.std.specs.Prelude.{◌≡◌, ◌≤◌, ◌++◌, [], codes, decimal, string_bytes, IfOk, OnOk, Err};
 ghost use Rattle.sched_base.specs.Outside.{Gains, GainsFront, Rose};
-ghost use Rattle.scheduler.specs.Answer.{code_of, line, verdict_words, text_of_judgement, text_of_bound_judgement, size_lines, verdict_lines, text_of_trial, text_of, IsTellable};
+ghost use Rattle.scheduler.specs.Answer.{code_of, line, verdict_words, text_of_judgement, text_of_bound_judgement, size_lines, verdict_lines, text_of_trial, text_of, status_of, IsTellable};
 ghost use Rattle.scheduler.specs.declared.tell.Untold.TheVariants.{NoMemory, WriteFault};
 
 use crate::answer::{Answer, BoundJudgement, Judgement, Outcome, Trial};
 use crate::plan_text::plan_text;
+use crate::status::Status;
 use plan_words::BadWords;
 use proof_log::write_report;
 use psplib_layout::{Fault, Refusal};
@@ -146,7 +147,7 @@ fn trial_lines(alloc: Global, trial: Trial) -> Result<String, AllocError>
 }
 
 /// Writes the text of the answer. All memory is taken before the first byte is written.
-pub fn tell<K: Sink>(alloc: Global, out: &mut K, answer: &Answer) -> Result<(), Untold>
+fn write_answer<K: Sink>(alloc: Global, out: &mut K, answer: &Answer) -> Result<(), Untold>
     requires { IsTellable answer.now }
     ensures whole { OnOk result (Gains (K.held out.old) (K.held out.new) (text_of answer.now)) }
     ensures front { result ≡ Err WriteFault → GainsFront (K.held out.old) (K.held out.new) (text_of answer.now) }
@@ -184,4 +185,18 @@ pub fn tell<K: Sink>(alloc: Global, out: &mut K, answer: &Answer) -> Result<(), 
         }
     }
     Ok(())
+}
+
+/// Tells the answer, and gives the status that a run ends with which told it. All memory is taken before the first byte is written.
+pub fn tell<K: Sink>(alloc: Global, out: &mut K, answer: &Answer) -> Result<Status, Untold>
+    requires { IsTellable answer.now }
+    ensures status { IfOk result (λ status. status ≡ status_of answer.now) }
+    ensures whole { OnOk result (Gains (K.held out.old) (K.held out.new) (text_of answer.now)) }
+    ensures front { result ≡ Err WriteFault → GainsFront (K.held out.old) (K.held out.new) (text_of answer.now) }
+    ensures fault { result ≡ Err WriteFault → Rose (K.faults out.old) (K.faults out.new) }
+    ensures silent { result ≡ Err NoMemory → Gains (K.held out.old) (K.held out.new) [] }
+    ensures later { K.faults out.old ≤ K.faults out.new }
+{
+    write_answer(alloc, out, answer)?;
+    Ok(answer.status())
 }

@@ -1,4 +1,4 @@
-use Rattle.std.proofs.Common.{◌≤◌, length, sym, subst, arith}
+use Rattle.std.proofs.Common.{◌≤◌, sym, subst, arith}
 use Rattle.rcpsp_model.specs.Project.{IsProject}
 use Rattle.log_checker.specs.Checker.{StandsFor}
 use Rattle.scheduler.specs.declared.judging.TheConstants.{MOST_REPORT}

@@ -1,7 +1,7 @@
 use Rattle.std.proofs.Common.{arith, subst, map, string_bytes}
 use Rattle.scheduler.specs.declared.reading.TheConstants.{MOST_READ}
 use Rattle.plan_words.specs.Words.{IsCommand}
-use Rattle.scheduler.specs.Answer.{IsRequest, IsOutcomeOf}
+use Rattle.scheduler.specs.Answer.{IsOutcomeOf}
 use Rattle.scheduler.proofs.TextFronts.{told_outcome}
 use Rattle.scheduler.proofs.running.answer_to.Goals as goal
 
@@ -9,9 +9,8 @@ pub returns-in_ok-solution_of-in-Ok-Solve-clause-answer : goal.returns-in_ok-sol
 returns-in_ok-solution_of-in-Ok-Solve-clause-answer g c =
     let command = subst (IsCommand (map string_bytes c.args.words.now)) c.in-Ok-Solve.field-0-is c.in-Ok-Solve.ensures.command in
     let solution = c.in_ok-solution_of-in-Ok-Solve in
-    let request : IsRequest (map string_bytes c.args.words.now) (record { workers = c.in-Ok-Solve.workers; nodes = c.in-Ok-Solve.nodes; tries = c.in-Ok-Solve.tries; log = c.in-Ok-Solve.log }) = record { solve = command.0; workers = command.2; nodes = command.3; log = command.4; tries = command.5 } in
     told_outcome (map string_bytes c.args.words.now) _ _ _ _ MOST_READ _ (omega arith) command.1 c.in_ok-text-in-Ok-Solve.ensures.text
-    (subst (λ bytes. IsOutcomeOf (map string_bytes c.args.words.now) bytes solution.field-0) c.deref.ensures.value (solution.ensures.outcome (map string_bytes c.args.words.now) request))
+    (subst (λ bytes. IsOutcomeOf (map string_bytes c.args.words.now) bytes solution.field-0) c.deref.ensures.value (solution.ensures.outcome (map string_bytes c.args.words.now) command.0 command.2))
 
 pub returns-in_ok-show_of-in-Ok-Show-clause-answer : goal.returns-in_ok-show_of-in-Ok-Show-clause-answer
 returns-in_ok-show_of-in-Ok-Show-clause-answer g c =

@@ -1,4 +1,4 @@
-use Rattle.std.proofs.Common.{ap, subst, ◌∙◌, Ok}
+use Rattle.std.proofs.Common.{subst, ◌∙◌}
 use Rattle.rcpsp_model.specs.Project.{Project}
 use Rattle.bound_checker.specs.Checker.{StandsFor, IsJudgement}
 use Rattle.scheduler.specs.Feeding.{HasAll}

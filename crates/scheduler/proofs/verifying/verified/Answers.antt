@@ -1,4 +1,4 @@
-use Rattle.std.proofs.Common.{arith, inl, inr, sym, ap, subst, ◌∙◌, Err}
+use Rattle.std.proofs.Common.{arith, inr, sym, ap, subst, ◌∙◌, Err}
 use Rattle.psplib_layout.specs.Text.{Reads, IsFirstRefusal}
 use Rattle.scheduler.specs.declared.reading.TheConstants.{MOST_READ}
 use Rattle.scheduler.specs.Verifying.{IsBoundJudgementOf}
