@@ -7,8 +7,6 @@
 mod deque;
 mod node;
 mod rule;
-#[cfg(test)]
-mod tests;
 mod thief;
 mod view;
 

@@ -1,10 +1,12 @@
-//! Tests of plans: what is in use in each period, the first plan, plans that are pulled together, and plans from tries.
+//! Tests of plans: modes, what is in use in each period, the first plan, plans that are pulled together, and plans from tries.
 #![tactic(auto)]
 
 #[cfg(test)]
 mod first_plans;
 #[cfg(test)]
 mod justified;
+#[cfg(test)]
+mod modes;
 #[cfg(test)]
 mod plans;
 #[cfg(test)]

@@ -6,7 +6,5 @@ mod drawing;
 pub mod laws;
 mod making;
 mod needs;
-#[cfg(test)]
-mod tests;
 
 pub use making::make;

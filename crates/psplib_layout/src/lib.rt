@@ -14,8 +14,6 @@ mod precedence;
 mod requests;
 mod rule;
 mod source;
-#[cfg(test)]
-mod tests;
 mod text;
 mod title;
 

@@ -4,8 +4,6 @@
 pub mod laws;
 mod lexer;
 mod numbers;
-#[cfg(test)]
-mod tests;
 mod words;
 
 pub use lexer::{LexFault, MOST_BYTES, lex};

@@ -12,8 +12,6 @@ mod mem_sink;
 mod outside;
 mod sure_shelf;
 mod sure_sink;
-#[cfg(test)]
-mod tests;
 mod texts;
 mod writing;
 

@@ -8,8 +8,6 @@
 mod pass;
 mod rule;
 mod table;
-#[cfg(test)]
-mod tests;
 mod view;
 
 pub use pass::Pass;

@@ -7,8 +7,6 @@
 mod cells;
 mod notes;
 mod rows;
-#[cfg(test)]
-mod tests;
 
 pub use cells::{Cells, OnceCells};
 pub use notes::agree;

@@ -1,6 +1,8 @@
+//! Projects that are made from a seed.
+
 ghost use Rattle.std.specs.Prelude.{◌≤◌};
 
-use crate::make;
+use project_gen::make;
 use project_net::print_project;
 use sched_base::NoMemory;
 use std::alloc::Global;

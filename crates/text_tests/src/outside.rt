@@ -1,4 +1,6 @@
-use crate::{Failed, List, MemShelf, MemSink, Shelf, Sink, write_whole};
+//! Lists, a sink that takes pieces and fails where it is told to, and a shelf of texts.
+
+use sched_base::{Failed, List, MemShelf, MemSink, Shelf, Sink, write_whole};
 use std::alloc::{AllocError, Global};
 
 fn text_of(alloc: Global, text: &str) -> Result<Vec<u8>, AllocError> {

@@ -1,9 +1,7 @@
 //! Texts with a calendar: those that are read, and on which line others are refused.
 
-use crate::canonical_tests::{
-    ONE_RESOURCE, Worked, canonical_text, check_canonical, check_printed,
-};
-use crate::{Fault, ReadError, Refusal, read_project};
+use crate::canonical::{ONE_RESOURCE, Worked, canonical_text, check_canonical, check_printed};
+use psplib_reader::{Fault, ReadError, Refusal, read_project};
 use std::alloc::{AllocError, Global};
 use std::process::Abort;
 

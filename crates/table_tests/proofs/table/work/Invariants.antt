@@ -1,5 +1,5 @@
 use Rattle.std.proofs.Common.{◌≡◌}
-use Rattle.search_table.proofs.tests.work.Given as goal
+use Rattle.table_tests.proofs.table.work.Given as goal
 
 abbrev pub invariant-loop-won : goal.invariant-loop-won
 invariant-loop-won l = record {

@@ -1,7 +1,7 @@
 //! Worked projects: each is read from its text, and printed as its canonical text.
 
-use crate::read_project;
 use project_net::print_project;
+use psplib_reader::read_project;
 use std::alloc::{AllocError, Global};
 use std::process::Abort;
 

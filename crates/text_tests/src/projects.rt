@@ -1,7 +1,9 @@
+//! Texts that are read as projects, and those that are refused as none.
+
 ghost use Rattle.rcpsp_model.specs.Project.{IsJob, IsMode};
 
-use crate::{Fault, ReadError, Refusal, read_project};
 use project_net::Project;
+use psplib_reader::{Fault, ReadError, Refusal, read_project};
 use std::alloc::{AllocError, Global};
 use std::test::Fail;
 

@@ -1,4 +1,6 @@
-use crate::{LexFault, MOST_BYTES, Words, lex};
+//! The kept lines of a text and their words, and the longest text.
+
+use psplib_lex::{LexFault, MOST_BYTES, Words, lex};
 use std::test::Fail;
 
 /// A kept line: its number and its words.

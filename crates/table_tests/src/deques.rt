@@ -1,6 +1,8 @@
+//! Deques of nodes: the owner pops, and a thief steals.
+
 ghost use Rattle.std.specs.Prelude.{◌≡◌, ◌≤◌, ◌<◌, All};
 
-use super::*;
+use node_deques::{DequeNode, NodeDeque, Steal, Thief};
 use precedence_tree::Node;
 use std::alloc::Global;
 use std::test::Fail;

@@ -1,8 +1,10 @@
+//! Rows of cells: what one worker puts, another reads.
+
 ghost use Rattle.std.specs.Prelude.{◌≡◌, ◌≤◌, ◌<◌};
 
-use super::*;
 use once_cell::race::OnceBox;
 use search_table::{Pass, RoundTable};
+use shared_rows::{Cells, Look, OnceCells, Rows};
 use std::alloc::Global;
 use std::test::Fail;
 use std::thread::{Threads, join_mut};

@@ -1,4 +1,6 @@
-use crate::{Content, Fault, ReadError, Refusal, Source, read_content};
+//! What the layout has of a text, and the faults for which one is refused.
+
+use psplib_layout::{Content, Fault, ReadError, Refusal, Source, read_content};
 use std::alloc::{AllocError, Global};
 use std::test::Fail;
 

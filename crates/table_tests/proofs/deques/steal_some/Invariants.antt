@@ -1,5 +1,5 @@
 use Rattle.std.proofs.Common.{◌≡◌}
-use Rattle.node_deques.proofs.tests.steal_some.Given as goal
+use Rattle.table_tests.proofs.deques.steal_some.Given as goal
 
 abbrev pub invariant-loop : goal.invariant-loop
 invariant-loop l = record {

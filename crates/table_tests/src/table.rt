@@ -1,6 +1,8 @@
+//! The table of a round, on one thread and on two.
+
 ghost use Rattle.std.specs.Prelude.{◌≡◌};
 
-use super::*;
+use search_table::{Draw, Pass, RoundEnd, RoundTable};
 use std::test::Fail;
 use std::thread::{Threads, join_mut};
 
