@@ -13,6 +13,7 @@ mod mode_table;
 mod network;
 mod oracle;
 mod order;
+mod prepared;
 mod print;
 mod project;
 mod reach;

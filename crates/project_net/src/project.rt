@@ -1,16 +1,15 @@
 ghost use Rattle.std.specs.Prelude.{◌≡◌, ℕ, ◌<◌, ◌≤◌, ◌↔◌, IsTrue, length, slice_get, sum_by, All, Some, IfOk, IfErr, IfSome, IfNone, OnOk};
 
-use crate::causes::{ModeCauses, all_causes};
-use crate::chains::tails;
+use crate::causes::ModeCauses;
 use crate::draft::{BuildRefusal, Draft};
 use crate::feasible;
-use crate::least::{LeastValues, least_values, place_in};
+use crate::least::place_in;
 use crate::network::Network;
-use crate::order::{jobs_in_order, ranks};
+use crate::prepared::{Prepared, prepare};
 use crate::reach::lowest_on_cycle;
 use crate::refusal::first_refusal;
 use crate::schedule::Schedule;
-use crate::stretches::{Stretch, StretchTable, place_at, stretch_table};
+use crate::stretches::{Stretch, place_at};
 use rcpsp_model::CalRow;
 use sched_base::{JobSet, NoMemory};
 use std::alloc::Global;
@@ -22,12 +21,7 @@ use std::marker::Model;
 #[derive(Drop)]
 pub struct Project {
     network: Network,
-    order: Vec<u8>,
-    least: LeastValues,
-    tails: Vec<u32>,
-    ranks: Vec<u8>,
-    stretches: StretchTable,
-    causes: Vec<ModeCauses>,
+    prepared: Prepared,
 }
 
 impl Model for Project {
@@ -38,7 +32,7 @@ impl Model for Project {
 
     ghost view = { λ p. p.network };
 
-    ghost invariant = { λ p. IsPrepared p.network p.order.items p.least p.tails.items p.ranks.items p.stretches p.causes.items };
+    ghost invariant = { λ p. IsPrepared p.network p.prepared };
 }
 
 impl Project {
@@ -56,31 +50,12 @@ impl Project {
     ghost use Rattle.project_net.specs.Budget.{with_budget};
 
     /// The project of a network without a cycle.
-    fn prepare(alloc: Global, network: Network) -> Result<Project, NoMemory>
+    fn of_network(alloc: Global, network: Network) -> Result<Project, NoMemory>
         requires { IsAcyclic network }
         ensures { IfOk result (λ p. p ≡ network) }
     {
-        network.known();
-        let order = jobs_in_order(alloc, &network)?;
-        let least = least_values(alloc, &network)?;
-        let tails = tails(
-            alloc,
-            &network,
-            order.as_slice(),
-            least.durations.as_slice(),
-        )?;
-        let ranks = ranks(alloc, &network, order.as_slice())?;
-        let stretches = stretch_table(alloc, &network)?;
-        let causes = all_causes(alloc, &network)?;
-        Ok(Project {
-            network,
-            order,
-            least,
-            tails,
-            ranks,
-            stretches,
-            causes,
-        })
+        let prepared = prepare(alloc, &network)?;
+        Ok(Project { network, prepared })
     }
 
     /// The project that a draft describes, or the first of its faults.
@@ -95,7 +70,7 @@ impl Project {
         let network = Network::of_draft(alloc, draft)?;
         match lowest_on_cycle(alloc, &network)? {
             Some(job) => Err(BuildRefusal::Cycle { job }),
-            None => Ok(Project::prepare(alloc, network)?),
+            None => Ok(Project::of_network(alloc, network)?),
         }
     }
 
@@ -106,14 +81,14 @@ impl Project {
         ensures { IfOk result (λ p. p ≡ with_budget self.now resource budget) }
     {
         let network = self.network.with_budget(alloc, resource, budget)?;
-        Project::prepare(alloc, network)
+        Project::of_network(alloc, network)
     }
 
     /// What is known of every project; it does nothing.
     pub fn known(&self)
         ensures { IsProject self.now }
     {
-        let _ = &self.tails;
+        let _ = &self.prepared;
     }
 
     /// The number of jobs, 1 to 128.
@@ -249,9 +224,9 @@ impl Project {
         requires { IsRenewable self.now resource }
         ensures { AreStretches self.now resource result.now }
     {
-        let first = self.stretches.firsts[resource as usize - 1];
-        let next = self.stretches.firsts[resource as usize];
-        &self.stretches.stretches.as_slice()[first..next]
+        let first = self.prepared.stretches.firsts[resource as usize - 1];
+        let next = self.prepared.stretches.firsts[resource as usize];
+        &self.prepared.stretches.stretches.as_slice()[first..next]
     }
 
     /// The greatest end of a row of the calendar, 0 to 10,000, and 0 where there is none: from this period on each capacity
@@ -260,7 +235,7 @@ impl Project {
         ensures value { result ≡ calm self.now }
         ensures limit { result ≤ 10000 }
     {
-        self.stretches.calm
+        self.prepared.stretches.calm
     }
 
     /// The number of rows of the calendar, 0 to 256.
@@ -311,7 +286,7 @@ impl Project {
         ensures value { result ≡ least_duration self.now job }
         ensures limit { result ≤ 10000 }
     {
-        self.least.durations[job as usize - 1]
+        self.prepared.least.durations[job as usize - 1]
     }
 
     /// The least that a job needs of a nonrenewable resource, over all its modes: 0 to 1,000,000.
@@ -322,7 +297,7 @@ impl Project {
         ensures limit { result ≤ 1000000 }
     {
         let place = place_in(self.network.nonrenewables(), job, resource);
-        self.least.needs[place]
+        self.prepared.least.needs[place]
     }
 
     /// The least work of a job on a renewable resource, over all its modes: periods times request, 0 to 10,000,000,000.
@@ -333,7 +308,7 @@ impl Project {
         ensures limit { result ≤ 10000000000 }
     {
         let place = place_in(self.network.renewables(), job, resource);
-        self.least.works[place]
+        self.prepared.least.works[place]
     }
 
     /// The sum over all jobs of the least that each needs of a nonrenewable resource: 0 to 128,000,000.
@@ -342,7 +317,7 @@ impl Project {
         ensures value { result ≡ sum_by (λ j. least_need self.now j resource) (jobs self.now) }
         ensures limit { result ≤ 128000000 }
     {
-        self.least.needs_of_all[resource as usize - 1]
+        self.prepared.least.needs_of_all[resource as usize - 1]
     }
 
     /// The causes for which no front comes of a job in a mode.
@@ -351,7 +326,7 @@ impl Project {
         requires mode { IsMode self.now job mode }
         ensures { AreCauses self.now job mode result }
     {
-        self.causes[self.network.place(job, mode)]
+        self.prepared.causes[self.network.place(job, mode)]
     }
 
     /// The lowest renewable resource of which a mode that takes time asks more than its capacity.
@@ -382,7 +357,7 @@ impl Project {
         ensures value { IsTail self.now job result }
         ensures limit { result ≤ 1280000 }
     {
-        self.tails[job as usize - 1]
+        self.prepared.tails[job as usize - 1]
     }
 
     /// The jobs in the order that repeatedly takes the lowest job whose predecessors were taken.
@@ -390,7 +365,7 @@ impl Project {
         ensures lowest_first { IsLowestFirst self.now result.now }
         ensures topological { IsTopological self.now result.now }
     {
-        self.order.as_slice()
+        self.prepared.order.as_slice()
     }
 
     /// The place of a job, from 1, in the order that repeatedly takes the lowest job whose predecessors were taken.
@@ -399,7 +374,7 @@ impl Project {
         ensures value { IsRank self.now job result }
         ensures few { result ≤ job_count self.now }
     {
-        self.ranks[job as usize - 1]
+        self.prepared.ranks[job as usize - 1]
     }
 
     /// Whether a job has a mode of this number.

@@ -6,7 +6,7 @@ use Rattle.project_net.proofs.project.Project.causes_of.Goals as goal
 pub returns : goal.returns
 returns c =
     let project = c.args.self.now in
-    let causes = c.self.inside.causes.items in
+    let causes = c.self.inside.prepared.causes.items in
     let all : AreAllCauses project causes = subst (λ (P : Project). AreAllCauses P causes) c.self.view_is c.self.invariant.causes in
     let found = c.index.result.now in
     let place = c.place.ensures ∙ ap (λ (P : Project). mode_place P c.args.job c.args.mode) c.self.view_is in
