@@ -111,24 +111,27 @@ pub fn parse_words(words: &[String]) -> Result<Command<'_>, BadWords>
     ensures command { IfOk result (λ command. IsCommand (map string_bytes words.now) command) }
     ensures reach { IfOk result IsWithinReach }
 {
-    match words {
-        [command, rest @ ..] if command.as_str() == "solve" => {
+    let [command, rest @ ..] = words else {
+        return Err(BadWords { place: 1 });
+    };
+    match command.as_str() {
+        "solve" => {
             let (project, request) = parse_solve(rest)?;
             Ok(Command::Solve { project, request })
         }
-        [command, rest @ ..] if command.as_str() == "check" => {
+        "check" => {
             let (project, report) = parse_two_names(rest)?;
             Ok(Command::Check { project, report })
         }
-        [command, rest @ ..] if command.as_str() == "show" => {
+        "show" => {
             let project = parse_last_name(rest, 2)?;
             Ok(Command::Show { project })
         }
-        [command, rest @ ..] if command.as_str() == "make" => {
+        "make" => {
             let recipe = parse_make(rest)?;
             Ok(Command::Make(recipe))
         }
-        [command, rest @ ..] if command.as_str() == "trial" => {
+        "trial" => {
             let (recipe, workers, nodes) = parse_trial(rest)?;
             Ok(Command::Trial {
                 recipe,
@@ -136,15 +139,15 @@ pub fn parse_words(words: &[String]) -> Result<Command<'_>, BadWords>
                 nodes,
             })
         }
-        [command, rest @ ..] if command.as_str() == "plan" => {
+        "plan" => {
             let (project, tries) = parse_plan(rest)?;
             Ok(Command::Plan { project, tries })
         }
-        [command, rest @ ..] if command.as_str() == "bound" => {
+        "bound" => {
             let project = parse_last_name(rest, 2)?;
             Ok(Command::Bound { project })
         }
-        [command, rest @ ..] if command.as_str() == "verify" => {
+        "verify" => {
             let (project, bound) = parse_two_names(rest)?;
             Ok(Command::Verify { project, bound })
         }
