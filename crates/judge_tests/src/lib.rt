@@ -1,4 +1,4 @@
-//! Tests of the judges: windows and what refutes an end, the text of a bound, and reports.
+//! Tests of the judges: windows and what refutes an end, the text of a bound, reports, and their text.
 #![tactic(auto)]
 
 #[cfg(test)]
@@ -7,5 +7,7 @@ mod bounds;
 mod expanded;
 #[cfg(test)]
 mod reports;
+#[cfg(test)]
+mod texts;
 #[cfg(test)]
 mod windows;

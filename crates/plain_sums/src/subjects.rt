@@ -6,12 +6,12 @@ use project_net::{CalRow, Project};
 use std::alloc::Global;
 use std::process::Abort;
 use std::test::Fail;
-use worked_projects::{EIGHTEEN_JOBS, EIGHTEEN_JOBS_TIGHT, WorkedProject, build};
+use worked_projects::{EIGHTEEN_JOBS, EIGHTEEN_JOBS_TIGHT, WorkedProject, build, build_draft};
 
 /// A project, and fronts of it.
 #[derive(Drop)]
 pub struct Subject {
-    pub project: Project,
+    pub project: Box<Project>,
     pub fronts: Fronts,
 }
 
@@ -58,7 +58,7 @@ pub fn with_breaks(rt: &impl Abort, alloc: Global) -> Result<Subject, Fail> {
 /// As many jobs as there can be, and each sixteenth front of some walks.
 pub fn most_jobs(rt: &impl Abort, alloc: Global) -> Result<Subject, Fail> {
     let draft = large_draft(alloc)?;
-    let project = Project::build(alloc, draft)?;
+    let project = build_draft(alloc, draft)?;
     let walks = Walks {
         number: 6,
         apart: 16,

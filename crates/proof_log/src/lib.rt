@@ -20,6 +20,3 @@ pub use parsing::parse_line;
 pub use rcpsp_model::Verdict;
 pub use report::{Log, LogLine, Report};
 pub use writing::write_report;
-
-#[cfg(test)]
-mod tests;

@@ -3,6 +3,7 @@
 #![tactic(auto)]
 
 mod answer;
+mod answering;
 mod bounding;
 mod judging;
 mod laws;

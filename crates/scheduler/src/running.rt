@@ -1,167 +1,18 @@
-ghost use Rattle.std.specs.Prelude.{◌≡◌, ◌≤◌, ◌⊎◌, ◌↔◌, ℕ, List, Err, None, IsSome, IfOk, IfSome, true, [], map, string_bytes};
+ghost use Rattle.std.specs.Prelude.{◌≡◌, ◌≤◌, ◌⊎◌, ◌↔◌, IsSome, IfSome, true, [], map, string_bytes};
 ghost use Rattle.sched_base.specs.Outside.{Gains, GainsFront, Rose};
 ghost use Rattle.scheduler.specs.declared.answer.Answer.{Answer as Told};
-ghost use Rattle.scheduler.specs.declared.answer.Answer.TheVariants as answers;
-ghost use Rattle.scheduler.specs.declared.stop.Stop.TheVariants as stops;
-ghost use Rattle.project_net.specs.Canonical.{canonical};
-ghost use Rattle.project_gen.specs.Made.{made};
-ghost use Rattle.plan_words.specs.Words.{bad_word, IsRequest, CanBeMade, IsSolve, IsCheck, IsShow, IsPlan, IsBound, IsVerify, IsMake, IsTrial, IsOnProject, IsPrint, workers_in, nodes_in, tries_in, prints_log};
+ghost use Rattle.plan_words.specs.Words.{bad_word, IsSolve, IsCheck, IsPlan, IsBound, IsVerify, IsMake, IsTrial, IsOnProject, IsPrint, workers_in, nodes_in, tries_in, prints_log};
 ghost use Rattle.scheduler.specs.Solve.{IsSolution, IsNoLaterThanFirst, ExpandsNoTwins, HasAtMostFronts};
 ghost use Rattle.scheduler.specs.Status.{IsSolved, IsServed, IsTold, IsFaultless};
-ghost use Rattle.scheduler.specs.Answer.{IsOutcomeOf, IsTrialOf, IsAnswerTo, IsTellable, HasProject, NamesNoProject, Runs, WhereSolved, TellsAccepted, TellsPlan, TellsBound, Judges, Verifies, Tries, text_of};
+ghost use Rattle.scheduler.specs.Answer.{IsAnswerTo, HasProject, NamesNoProject, Runs, WhereSolved, TellsAccepted, TellsPlan, TellsBound, Judges, Verifies, Tries, text_of};
 
-use crate::answer::{Answer, Outcome, Trial};
-use crate::bounding::bound_for;
-use crate::judging::checked;
-use crate::planning::planned;
-use crate::reading::read_text;
-use crate::solving::{report_on, verdict_on};
+use crate::answering::answer_to;
 use crate::status::Status;
 use crate::stop::Stop;
 use crate::tell::{Untold, tell};
-use crate::verifying::verified;
-use plan_words::{Command, Recipe, Request, parse_words};
-use project_gen::make;
-use project_net::print_project;
-use psplib_layout::ReadError;
-use psplib_reader::read_project;
 use sched_base::{Gate, Shelf, Sink};
 use std::alloc::Global;
 use std::thread::Threads;
-
-/// What a project text comes to where it is to be solved.
-fn solution_of<R: Threads + Sync, G: Gate + Sync>(
-    rt: &R,
-    alloc: Global,
-    gate: &G,
-    text: &[u8],
-    request: Request,
-) -> Result<Outcome, Stop>
-    requires some { 1 ≤ request.workers }
-    requires few { request.workers ≤ 32 }
-    requires nodes { request.nodes ≤ 100000 }
-    ensures outcome { IfOk result (λ outcome. (words : List (List ℕ)) → IsSolve words → IsRequest words request → IsOutcomeOf words text.now outcome) }
-    ensures text { IfOk result (λ outcome. IsTellable (answers.Read outcome)) }
-    ensures memory { result ≡ Err stops.ReadFault → ⊥ }
-{
-    match read_project(alloc, text) {
-        Ok(project) => Ok(Outcome::Solved(report_on(rt, alloc, gate, &project, request)?)),
-        Err(ReadError::Refused(refusal)) => Ok(Outcome::BadProject(refusal)),
-        Err(ReadError::NoMemory) => Err(Stop::NoMemory),
-    }
-}
-
-/// What a project text comes to where it is to be shown.
-fn show_of(alloc: Global, text: &[u8]) -> Result<Outcome, Stop>
-    ensures outcome { IfOk result (λ outcome. (words : List (List ℕ)) → IsShow words → IsOutcomeOf words text.now outcome) }
-    ensures text { IfOk result (λ outcome. IsTellable (answers.Read outcome)) }
-    ensures memory { result ≡ Err stops.ReadFault → ⊥ }
-{
-    match read_project(alloc, text) {
-        Ok(project) => Ok(Outcome::Shown(print_project(alloc, &project)?)),
-        Err(ReadError::Refused(refusal)) => Ok(Outcome::BadProject(refusal)),
-        Err(ReadError::NoMemory) => Err(Stop::NoMemory),
-    }
-}
-
-/// What a project text comes to where it is to be planned.
-fn plan_for(alloc: Global, text: &[u8], tries: u32) -> Result<Outcome, Stop>
-    ensures outcome { IfOk result (λ outcome. (words : List (List ℕ)) → IsPlan words → tries ≡ tries_in words → IsOutcomeOf words text.now outcome) }
-    ensures text { IfOk result (λ outcome. IsTellable (answers.Read outcome)) }
-    ensures memory { result ≡ Err stops.ReadFault → ⊥ }
-{
-    match read_project(alloc, text) {
-        Ok(project) => Ok(Outcome::Planned(planned(alloc, &project, tries)?)),
-        Err(ReadError::Refused(refusal)) => Ok(Outcome::BadProject(refusal)),
-        Err(ReadError::NoMemory) => Err(Stop::NoMemory),
-    }
-}
-
-/// The canonical text of a made project.
-fn made_text(alloc: Global, recipe: Recipe) -> Result<Vec<u8>, Stop>
-    requires { CanBeMade recipe }
-    ensures text { IfOk result (λ text. text.items ≡ canonical (made recipe.seed recipe.jobs recipe.modes)) }
-    ensures memory { result ≡ Err stops.ReadFault → ⊥ }
-{
-    let project = make(alloc, u64::from(recipe.seed), recipe.jobs, recipe.modes)?;
-    Ok(print_project(alloc, &project)?)
-}
-
-/// What a made project comes to where it is solved.
-fn trial_of<R: Threads + Sync, G: Gate + Sync>(
-    rt: &R,
-    alloc: Global,
-    gate: &G,
-    recipe: Recipe,
-    workers: u32,
-    nodes: u32,
-) -> Result<Trial, Stop>
-    requires recipe { CanBeMade recipe }
-    requires some { 1 ≤ workers }
-    requires few { workers ≤ 32 }
-    requires nodes { nodes ≤ 100000 }
-    ensures trial { IfOk result (IsTrialOf recipe.seed recipe.jobs recipe.modes workers nodes) }
-    ensures memory { result ≡ Err stops.ReadFault → ⊥ }
-{
-    let Recipe { seed, jobs, modes } = recipe;
-    let project = make(alloc, u64::from(seed), jobs, modes)?;
-    let verdict = verdict_on(rt, alloc, gate, &project, workers, nodes)?;
-    Ok(Trial {
-        jobs,
-        modes,
-        verdict,
-    })
-}
-
-/// The answer to the words.
-fn answer_to<R: Threads + Sync, S: Shelf, G: Gate + Sync>(
-    rt: &R,
-    alloc: Global,
-    words: &[String],
-    shelf: &mut S,
-    gate: &G,
-) -> Result<Answer, Stop>
-    ensures answer { IfOk result (λ answer. IsAnswerTo (map string_bytes words.now) (S.texts shelf.old) answer) }
-    ensures text { IfOk result IsTellable }
-    ensures fault { result ≡ Err stops.ReadFault → IsOnProject (map string_bytes words.now) × Rose (S.faults shelf.old) (S.faults shelf.new) }
-    ensures texts { S.texts shelf.new ≡ S.texts shelf.old }
-    ensures later { S.faults shelf.old ≤ S.faults shelf.new }
-    ensures unread { IsMake (map string_bytes words.now) → shelf.new ≡ shelf.old }
-    ensures untouched { IsTrial (map string_bytes words.now) → shelf.new ≡ shelf.old }
-{
-    match parse_words(words) {
-        Ok(Command::Solve { project, request }) => {
-            let text = read_text(alloc, shelf, project)?;
-            Ok(Answer::Read(solution_of(rt, alloc, gate, &text, request)?))
-        }
-        Ok(Command::Check { project, report }) => checked(alloc, shelf, project, report),
-        Ok(Command::Plan { project, tries }) => {
-            let text = read_text(alloc, shelf, project)?;
-            Ok(Answer::Read(plan_for(alloc, &text, tries)?))
-        }
-        Ok(Command::Bound { project }) => {
-            let text = read_text(alloc, shelf, project)?;
-            Ok(Answer::Read(bound_for(alloc, &text)?))
-        }
-        Ok(Command::Verify { project, bound }) => verified(alloc, shelf, project, bound),
-        Ok(Command::Show { project }) => {
-            let text = read_text(alloc, shelf, project)?;
-            Ok(Answer::Read(show_of(alloc, &text)?))
-        }
-        Ok(
-            Command::Trial {
-                recipe,
-                workers,
-                nodes,
-            },
-        ) => {
-            let trial = trial_of(rt, alloc, gate, recipe, workers, nodes)?;
-            Ok(Answer::Tried(trial))
-        }
-        Ok(Command::Make(recipe)) => Ok(Answer::Made(made_text(alloc, recipe)?)),
-        Err(bad) => Ok(Answer::BadWords(bad)),
-    }
-}
 
 /// Runs the program on these words: reads the project from the shelf, and writes what there is to tell to the sink.
 ///

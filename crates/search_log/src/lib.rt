@@ -19,6 +19,3 @@ pub use row::{Fill, Origin, Row, RowFate};
 pub use table::{Table, fill};
 pub use telling::{Told, log_of};
 pub use walk::preorder;
-
-#[cfg(test)]
-mod tests;

@@ -74,12 +74,25 @@ pub fn draft(alloc: Global, worked: &WorkedProject) -> Result<Draft, NoMemory> {
     })
 }
 
+/// The project of a draft, behind a pointer, so that a test owns no more than that.
+///
+/// # Errors
+///
+/// [`BuildRefusal`] where the draft is none of a project, or memory was refused.
+pub fn build_draft(alloc: Global, draft: Draft) -> Result<Box<Project>, BuildRefusal> {
+    let project = Project::build(alloc, draft)?;
+    match Box::new(alloc, project) {
+        Ok(project) => Ok(project),
+        Err(_) => Err(BuildRefusal::NoMemory),
+    }
+}
+
 /// The project itself.
 ///
 /// # Errors
 ///
 /// [`BuildRefusal`] where the rows are no project, or memory was refused.
-pub fn build(alloc: Global, worked: &WorkedProject) -> Result<Project, BuildRefusal> {
+pub fn build(alloc: Global, worked: &WorkedProject) -> Result<Box<Project>, BuildRefusal> {
     let draft = draft(alloc, worked)?;
-    Project::build(alloc, draft)
+    build_draft(alloc, draft)
 }

@@ -13,7 +13,7 @@ mod small;
 #[cfg(test)]
 mod tests;
 
-pub use drafting::{DraftRow, ModeRow, WorkedProject, build, draft};
+pub use drafting::{DraftRow, ModeRow, WorkedProject, build, build_draft, draft};
 pub use fronts::{EntryRow, entries};
 pub use many::{EIGHTEEN_JOBS, EIGHTEEN_JOBS_TIGHT};
 pub use small::{

@@ -34,22 +34,24 @@ fn judged(
     Ok((project.end(&schedule), project.is_feasible(&schedule)))
 }
 
+/// Starts of the jobs of `AFTER_A_BREAK`, with the end of the schedule, and whether it is feasible.
+const ENDS: &[([u32; 4], u32, bool)] = &[
+    ([0, 2, 5, 7], 7, true),
+    ([2, 4, 2, 7], 7, true),
+    ([0, 2, 9, 11], 11, true),
+    ([0, 1, 4, 6], 6, false),
+    ([0, 2, 4, 7], 7, false),
+    ([0, 2, 5, 6], 7, false),
+    ([3, 2, 5, 7], 7, false),
+    ([0, 0, 5, 7], 7, false),
+];
+
 #[test]
 fn ends_and_feasibility(rt: HostRuntime) -> Result<(), Fail> {
     let project = build(rt.alloc(), &AFTER_A_BREAK)?;
-    let cases: [([u32; 4], u32, bool); 8] = [
-        ([0, 2, 5, 7], 7, true),
-        ([2, 4, 2, 7], 7, true),
-        ([0, 2, 9, 11], 11, true),
-        ([0, 1, 4, 6], 6, false),
-        ([0, 2, 4, 7], 7, false),
-        ([0, 2, 5, 6], 7, false),
-        ([3, 2, 5, 7], 7, false),
-        ([0, 0, 5, 7], 7, false),
-    ];
-    for (starts, end, is_feasible) in cases {
-        let found = judged(&rt, rt.alloc(), &project, &starts)?;
-        assert_eq!(rt; found, (end, is_feasible));
+    for (starts, end, is_feasible) in ENDS {
+        let found = judged(&rt, rt.alloc(), &project, starts)?;
+        assert_eq!(rt; found, (*end, *is_feasible));
     }
     Ok(())
 }

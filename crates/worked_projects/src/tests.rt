@@ -1,4 +1,5 @@
-ghost use Rattle.rcpsp_model.specs.Project.{IsJob, IsMode};
+ghost use Rattle.std.specs.Prelude.{◌≤◌};
+ghost use Rattle.rcpsp_model.specs.Project.{IsJob, IsMode, nonrenewables};
 
 use crate::{
     AFTER_A_BREAK, ALL_AT_ONCE, ASKS_TOO_MUCH, BUDGETS_ALONE, DraftRow, EIGHTEEN_JOBS,
@@ -12,7 +13,7 @@ use std::process::Abort;
 use std::test::Fail;
 
 /// Each worked project with its number of jobs and the tail of its first job.
-const ALL: [(WorkedProject, u8, u32); 15] = [
+const ALL: &[(WorkedProject, u8, u32)] = &[
     (TWO_IN_TURN, 4, 3),
     (ALL_AT_ONCE, 4, 3),
     (AFTER_A_BREAK, 4, 3),
@@ -33,16 +34,16 @@ const ALL: [(WorkedProject, u8, u32); 15] = [
 #[test]
 fn each_is_a_project(rt: HostRuntime) {
     for (worked, jobs, tail) in ALL {
-        let project = build(rt.alloc(), &worked).expect(&rt, "a project");
-        assert_eq!(rt; project.jobs(), jobs);
-        assert_eq!(rt; project.tail(1), tail);
+        let project = build(rt.alloc(), worked).expect(&rt, "a project");
+        assert_eq!(rt; project.jobs(), *jobs);
+        assert_eq!(rt; project.tail(1), *tail);
     }
 }
 
 const SHORT: DraftRow = (&[(1, &[1], &[])], &[]);
 
 /// Jobs with one unit of one renewable resource, and a calendar of it, that are no project; and why.
-const REFUSED: [(&[DraftRow], &[CalRow], BuildRefusal); 6] = [
+const REFUSED: &[(&[DraftRow], &[CalRow], BuildRefusal)] = &[
     (&[], &[], BuildRefusal::OutOfLimit { job: 0 }),
     (&[SHORT; 129], &[], BuildRefusal::OutOfLimit { job: 0 }),
     (
@@ -85,7 +86,7 @@ fn rows_that_are_no_project(rt: HostRuntime) {
             budgets: &[],
             calendar,
         };
-        assert_eq!(rt; build(rt.alloc(), &rows).err(), Some(why));
+        assert_eq!(rt; build(rt.alloc(), &rows).err(), Some(*why));
     }
 }
 
@@ -106,6 +107,29 @@ fn facts_of(project: &Project, job: u8) -> JobFacts
     )
 }
 
+/// Projects with what they say of their jobs.
+const FACTS: &[(WorkedProject, &[JobFacts])] = &[
+    (
+        NO_LENGTH,
+        &[
+            (1, 0, 3, 3, 0b00010, 0b01000),
+            (1, 0, 3, 2, 0b00100, 0b00001),
+            (1, 0, 3, 1, 0b00000, 0b00010),
+            (1, 3, 3, 4, 0b00001, 0b00000),
+            (1, 2, 2, 5, 0b00000, 0b00000),
+        ],
+    ),
+    (
+        SHORT_OR_CHEAP,
+        &[
+            (1, 0, 2, 1, 0b0000, 0b0110),
+            (2, 2, 2, 2, 0b0001, 0b1000),
+            (2, 2, 2, 3, 0b0001, 0b1000),
+            (1, 0, 0, 4, 0b0110, 0b0000),
+        ],
+    ),
+];
+
 fn compare_facts(rt: &impl Abort, project: &Project, rows: &[JobFacts]) {
     assert_eq!(rt; project.jobs() as usize, rows.len());
     for place in 0..rows.len() {
@@ -116,23 +140,10 @@ fn compare_facts(rt: &impl Abort, project: &Project, rows: &[JobFacts]) {
 
 #[test]
 fn facts_of_jobs(rt: HostRuntime) -> Result<(), Fail> {
-    let no_length = build(rt.alloc(), &NO_LENGTH)?;
-    let in_turn: [JobFacts; 5] = [
-        (1, 0, 3, 3, 0b00010, 0b01000),
-        (1, 0, 3, 2, 0b00100, 0b00001),
-        (1, 0, 3, 1, 0b00000, 0b00010),
-        (1, 3, 3, 4, 0b00001, 0b00000),
-        (1, 2, 2, 5, 0b00000, 0b00000),
-    ];
-    compare_facts(&rt, &no_length, &in_turn);
-    let short_or_cheap = build(rt.alloc(), &SHORT_OR_CHEAP)?;
-    let side_by_side: [JobFacts; 4] = [
-        (1, 0, 2, 1, 0b0000, 0b0110),
-        (2, 2, 2, 2, 0b0001, 0b1000),
-        (2, 2, 2, 3, 0b0001, 0b1000),
-        (1, 0, 0, 4, 0b0110, 0b0000),
-    ];
-    compare_facts(&rt, &short_or_cheap, &side_by_side);
+    for (worked, rows) in FACTS {
+        let project = build(rt.alloc(), worked)?;
+        compare_facts(&rt, &project, rows);
+    }
     Ok(())
 }
 
@@ -148,6 +159,16 @@ fn append_mode(numbers: &mut Vec<u32>, project: &Project, job: u8, mode: u8) -> 
     for resource in 1..project.nonrenewables() + 1 {
         numbers.push(project.need(job, mode, resource))?;
     }
+    Ok(())
+}
+
+/// Compares a project with nine of its first budget with the project itself.
+fn compare_budgets(rt: &impl Abort, alloc: Global, project: &Project) -> Result<(), NoMemory>
+    requires { 1 ≤ nonrenewables project.now }
+{
+    let changed = project.with_budget(alloc, 1, 9)?;
+    assert_eq!(rt; changed.budgets(), [9].as_slice());
+    assert_eq!(rt; changed.capacities(), project.capacities());
     Ok(())
 }
 
@@ -169,8 +190,6 @@ fn modes_and_another_budget(rt: HostRuntime) -> Result<(), Fail> {
     let wanted: &[u32] = &[0, 0, 0, 2, 1, 3, 4, 1, 1, 2, 1, 3, 4, 1, 1, 0, 0, 0];
     assert_eq!(rt; numbers.as_slice(), wanted);
     assert_eq!(rt; project.nonrenewables(), 1);
-    let changed = project.with_budget(rt.alloc(), 1, 9)?;
-    assert_eq!(rt; changed.budgets(), [9].as_slice());
-    assert_eq!(rt; changed.capacities(), project.capacities());
+    compare_budgets(&rt, rt.alloc(), &project)?;
     Ok(())
 }

@@ -1,4 +1,5 @@
-//! Tests of the search: the visits of a worker, what becomes of a round, and searches by several workers.
+//! Tests of the search: the table of its rows and the log that is told of it, the visits of a worker, what becomes of a round,
+//! and searches by several workers.
 #![tactic(auto)]
 
 #[cfg(test)]
@@ -11,6 +12,8 @@ mod refusing;
 mod rounds;
 #[cfg(test)]
 mod searches;
+#[cfg(test)]
+mod tables;
 #[cfg(test)]
 mod threads;
 #[cfg(test)]
