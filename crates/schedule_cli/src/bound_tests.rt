@@ -1,11 +1,7 @@
 //! Bounds that the program writes and judges, and those with an edit.
 
-use crate::check_tests::{shelf_with, text_of};
-use crate::tests::{check, words_of};
-use sched_base::{MemSink, OpenGate};
-use scheduler::{Status, run};
-use std::process::Abort;
-use std::thread::Threads;
+use crate::runs::{Outside, accepts, check, text_of, told};
+use scheduler::Status;
 use worked_projects::{
     AFTER_A_BREAK, EIGHTEEN_JOBS, LONGER_MODE, THREE_IN_TURN, TWO_IN_TURN, WorkedProject,
 };
@@ -14,7 +10,7 @@ use worked_projects::{
 type Judgement = (&'static str, Status, &'static str);
 
 /// Of the two jobs in conflict.
-const JUDGEMENTS: [Judgement; 7] = [
+const JUDGEMENTS: &[Judgement] = &[
     (
         "psplib-bound 1\nbound 5\nD 2 3 1\nF 2\nend\n",
         Status::Done,
@@ -48,50 +44,22 @@ const JUDGEMENTS: [Judgement; 7] = [
     ("", Status::ReportRefused, "bound refused: line 1\n"),
 ];
 
-/// Judges the text of a bound of a project.
-fn check_bound<R: Threads + Abort + Sync + AllocGlobal>(
-    rt: &R,
-    project: &[u8],
-    bound: &[u8],
-    want: (Status, &str),
-) {
-    let none = Vec::new(rt.alloc());
-    let mut shelf = shelf_with(rt.alloc(), project, bound, none, 7).expect(rt, "memory");
-    let never = Vec::new(rt.alloc());
-    let mut out = MemSink::new(rt.alloc(), 64, never, 64).expect(rt, "memory");
-    check(rt, "verify p r", &mut shelf, &mut out, want);
-}
-
 #[test]
 fn bounds_are_judged(rt: HostRuntime) {
     let project = text_of(&rt, &TWO_IN_TURN);
-    for (bound, status, text) in &JUDGEMENTS {
-        check_bound(&rt, &project, bound.as_bytes(), (*status, text));
+    for (bound, status, text) in JUDGEMENTS {
+        let outside = Outside {
+            step: 7,
+            ..Outside::of(&project, bound.as_bytes())
+        };
+        check(&rt, "verify p r", &outside, (*status, text));
     }
-}
-
-/// What the program writes on these words, over a shelf with a project.
-fn written<R: Threads + Abort + Sync + AllocGlobal>(
-    rt: &R,
-    project: &[u8],
-    words: &str,
-) -> Vec<u8> {
-    let none = Vec::new(rt.alloc());
-    let mut shelf = shelf_with(rt.alloc(), project, b"", none, 65_536).expect(rt, "memory");
-    let never = Vec::new(rt.alloc());
-    let mut out = MemSink::new(rt.alloc(), 4_194_304, never, 65_536).expect(rt, "memory");
-    let words = words_of(rt.alloc(), words).expect(rt, "memory");
-    let status = run(rt, rt.alloc(), &words, &mut shelf, &mut out, &OpenGate);
-    assert_eq!(rt; status, Status::Done);
-    let mut bytes = Vec::new(rt.alloc());
-    bytes.extend_from_slice(out.bytes()).expect(rt, "memory");
-    bytes
 }
 
 /// A project, what its bound's text begins with, and what is said of the text.
 type Case = (&'static WorkedProject, &'static str, &'static str);
 
-const CASES: [Case; 4] = [
+const CASES: &[Case] = &[
     (
         &TWO_IN_TURN,
         "psplib-bound 1\nbound 5\n",
@@ -116,30 +84,22 @@ const CASES: [Case; 4] = [
 
 #[test]
 fn written_bounds_are_accepted(rt: HostRuntime) {
-    for (worked, begins, accepted) in &CASES {
+    for (worked, begins, accepted) in CASES {
         let project = text_of(&rt, worked);
-        let bound = written(&rt, &project, "bound p");
+        let (status, bound) = told(&rt, "bound p", &Outside::of(&project, b""));
+        assert_eq!(rt; status, Status::Done);
         assert!(rt; bound.as_slice().starts_with(begins.as_bytes()));
-        check_bound(&rt, &project, &bound, (Status::Done, accepted));
+        let outside = Outside::of(&project, &bound);
+        check(&rt, "verify p r", &outside, (Status::Done, accepted));
     }
-}
-
-/// Whether the bound that is written of a project is accepted.
-fn is_accepted<R: Threads + Abort + Sync + AllocGlobal>(rt: &R, project: &[u8]) -> bool {
-    let bound = written(rt, project, "bound p");
-    let none = Vec::new(rt.alloc());
-    let mut shelf = shelf_with(rt.alloc(), project, &bound, none, 65_536).expect(rt, "memory");
-    let never = Vec::new(rt.alloc());
-    let mut out = MemSink::new(rt.alloc(), 64, never, 64).expect(rt, "memory");
-    let words = words_of(rt.alloc(), "verify p r").expect(rt, "memory");
-    let status = run(rt, rt.alloc(), &words, &mut shelf, &mut out, &OpenGate);
-    status == Status::Done
 }
 
 #[test]
 fn bounds_of_larger_projects_are_accepted(rt: HostRuntime) {
     let eighteen = text_of(&rt, &EIGHTEEN_JOBS);
-    assert!(rt; is_accepted(&rt, &eighteen));
-    let forty = written(&rt, b"", "make 42 40 modes=3");
-    assert!(rt; is_accepted(&rt, &forty));
+    let (_, forty) = told(&rt, "make 42 40 modes=3", &Outside::of(b"", b""));
+    for project in [eighteen.as_slice(), forty.as_slice()] {
+        let (_, bound) = told(&rt, "bound p", &Outside::of(project, b""));
+        assert!(rt; accepts(&rt, "verify p r", project, &bound));
+    }
 }

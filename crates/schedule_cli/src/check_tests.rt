@@ -1,15 +1,13 @@
 //! Reports that are judged: those that the program prints, and those with an edit.
 
-use crate::tests::{check, words_of};
-use project_net::print_project;
-use sched_base::{MemShelf, MemSink, OpenGate};
-use scheduler::{Status, run};
+use crate::runs::{Outside, accepts, check, report_of, text_of};
+use scheduler::Status;
 use std::alloc::{AllocError, Global};
 use std::process::Abort;
 use std::thread::Threads;
 use worked_projects::{
     AFTER_A_BREAK, EIGHTEEN_JOBS, EIGHTEEN_JOBS_TIGHT, LATE_BREAK, NEEDS_DIFFER, NO_LENGTH, TWINS,
-    TWO_IN_TURN, WorkedProject, build,
+    TWO_IN_TURN, WorkedProject,
 };
 
 /// An edit of a report: from a line on so many lines give way to another text. And the refusal: its line and its reason.
@@ -25,7 +23,7 @@ struct Case {
 /// A line that is a byte longer than any may be.
 const DIGITS: &str = "01234567890123456789012345678901234567890123456789012345678901234\n";
 
-const CASES: [Case; 5] = [
+const CASES: &[Case] = &[
     Case {
         project: &TWO_IN_TURN,
         options: "",
@@ -71,52 +69,6 @@ const CASES: [Case; 5] = [
     },
 ];
 
-/// A name and a text.
-fn named(alloc: Global, name: &str, text: &[u8]) -> Result<(String, Vec<u8>), AllocError> {
-    let mut bytes = Vec::new(alloc);
-    bytes.extend_from_slice(text)?;
-    Ok((String::from_str(alloc, name)?, bytes))
-}
-
-/// A shelf with a project under `p` and a report under `r`, which gives so many bytes in a read at most, and whose listed calls
-/// fail.
-pub fn shelf_with(
-    alloc: Global,
-    project: &[u8],
-    report: &[u8],
-    failing: Vec<u64>,
-    step: usize,
-) -> Result<MemShelf, AllocError> {
-    let mut texts = Vec::new(alloc);
-    texts.push(named(alloc, "p", project)?)?;
-    texts.push(named(alloc, "r", report)?)?;
-    Ok(MemShelf::new(texts, failing, step.max(1)))
-}
-
-/// The canonical text of a project.
-pub fn text_of<R: Abort + AllocGlobal>(rt: &R, project: &WorkedProject) -> Vec<u8> {
-    let project = build(rt.alloc(), project).expect(rt, "a project");
-    print_project(rt.alloc(), &project).expect(rt, "memory")
-}
-
-/// The report that is printed of a project.
-pub fn report_of<R: Threads + Abort + Sync + AllocGlobal>(
-    rt: &R,
-    project: &[u8],
-    options: &str,
-) -> Vec<u8> {
-    let none = Vec::new(rt.alloc());
-    let mut shelf = shelf_with(rt.alloc(), project, b"", none, 65_536).expect(rt, "memory");
-    let never = Vec::new(rt.alloc());
-    let mut out = MemSink::new(rt.alloc(), 4_194_304, never, 65_536).expect(rt, "memory");
-    let words = format!(in rt.alloc(); "solve p {options}").expect(rt, "memory");
-    let words = words_of(rt.alloc(), words.as_str()).expect(rt, "memory");
-    let _ = run(rt, rt.alloc(), &words, &mut shelf, &mut out, &OpenGate);
-    let mut report = Vec::new(rt.alloc());
-    report.extend_from_slice(out.bytes()).expect(rt, "memory");
-    report
-}
-
 /// Where a line of a text begins, counted from 1; the end of the text where there are fewer lines.
 pub fn begin_of(text: &[u8], line: usize) -> usize {
     let mut begin = 0;
@@ -150,55 +102,57 @@ fn check_report<R: Threads + Abort + Sync + AllocGlobal>(
     want: (Status, &str),
 ) {
     for step in [1, 65_536] {
-        let none = Vec::new(rt.alloc());
-        let mut shelf = shelf_with(rt.alloc(), project, report, none, step).expect(rt, "memory");
-        let never = Vec::new(rt.alloc());
-        let mut out = MemSink::new(rt.alloc(), 64, never, 64).expect(rt, "memory");
-        check(rt, "check p r", &mut shelf, &mut out, want);
+        let outside = Outside {
+            step,
+            ..Outside::of(project, report)
+        };
+        check(rt, "check p r", &outside, want);
     }
 }
 
-/// Judges each edit of a report.
-fn check_edits<R: Threads + Abort + Sync + AllocGlobal>(rt: &R, case: &Case) {
-    let project = text_of(rt, case.project);
-    let report = report_of(rt, &project, case.options);
-    for edit in case.edits {
-        let (line, reason) = edit.3;
-        let other = edited(rt.alloc(), &report, edit).expect(rt, "memory");
-        let want = format!(in rt.alloc(); "report refused: line {line} reason {reason}\n").expect(
-            rt, "memory",
-        );
-        check_report(rt, &project, &other, (Status::ReportRefused, want.as_str()));
-    }
+/// Judges an edit of a report.
+fn check_edit<R: Threads + Abort + Sync + AllocGlobal>(
+    rt: &R,
+    project: &[u8],
+    report: &[u8],
+    edit: &Edit,
+) {
+    let (line, reason) = edit.3;
+    let other = edited(rt.alloc(), report, edit).expect(rt, "memory");
+    let want = format!(in rt.alloc(); "report refused: line {line} reason {reason}\n").expect(
+        rt, "memory",
+    );
+    check_report(rt, project, &other, (Status::ReportRefused, want.as_str()));
 }
 
 #[test]
 fn edits_are_refused(rt: HostRuntime) {
-    for case in &CASES {
-        check_edits(&rt, case);
+    for case in CASES {
+        let project = text_of(&rt, case.project);
+        let report = report_of(&rt, &project, case.options);
+        for edit in case.edits {
+            check_edit(&rt, &project, &report, edit);
+        }
     }
 }
 
-/// Judges the report of a project.
-fn check_own<R: Threads + Abort + Sync + AllocGlobal>(
-    rt: &R,
-    project: &WorkedProject,
-    options: &str,
-    want: &str,
-) {
-    let project = text_of(rt, project);
-    let report = report_of(rt, &project, options);
-    check_report(rt, &project, &report, (Status::Done, want));
-}
+/// A project, the options of its search, and what is told of the report.
+const ACCEPTED: &[(&WorkedProject, &str, &str)] = &[
+    (&TWO_IN_TURN, "", "accepted optimal 5\n"),
+    (&TWO_IN_TURN, "nodes=0", "accepted limit 4\n"),
+    (&AFTER_A_BREAK, "", "accepted optimal 7\n"),
+    (&AFTER_A_BREAK, "nodes=0", "accepted limit 5\n"),
+    (&LATE_BREAK, "", "accepted optimal 6\n"),
+    (&EIGHTEEN_JOBS, "", "accepted optimal 18\n"),
+];
 
 #[test]
 fn reports_are_accepted(rt: HostRuntime) {
-    check_own(&rt, &TWO_IN_TURN, "", "accepted optimal 5\n");
-    check_own(&rt, &TWO_IN_TURN, "nodes=0", "accepted limit 4\n");
-    check_own(&rt, &AFTER_A_BREAK, "", "accepted optimal 7\n");
-    check_own(&rt, &AFTER_A_BREAK, "nodes=0", "accepted limit 5\n");
-    check_own(&rt, &LATE_BREAK, "", "accepted optimal 6\n");
-    check_own(&rt, &EIGHTEEN_JOBS, "", "accepted optimal 18\n");
+    for (worked, options, told) in ACCEPTED {
+        let project = text_of(&rt, worked);
+        let report = report_of(&rt, &project, options);
+        check_report(&rt, &project, &report, (Status::Done, told));
+    }
 }
 
 #[test]
@@ -210,36 +164,30 @@ fn reports_of_several_workers_are_accepted(rt: HostRuntime) {
         "nodes=5000 workers=8",
     ] {
         let report = report_of(&rt, &project, options);
-        let none = Vec::new(rt.alloc());
-        let mut shelf = shelf_with(rt.alloc(), &project, &report, none, 65_536).expect(
-            &rt, "memory",
-        );
-        let never = Vec::new(rt.alloc());
-        let mut out = MemSink::new(rt.alloc(), 64, never, 64).expect(&rt, "memory");
-        let words = words_of(rt.alloc(), "check p r").expect(&rt, "memory");
-        let status = run(&rt, rt.alloc(), &words, &mut shelf, &mut out, &OpenGate);
-        assert_eq!(&rt; status, Status::Done);
+        assert!(&rt; accepts(&rt, "check p r", &project, &report));
     }
 }
 
-/// Judges a report on two jobs in turn over a shelf whose sixth call fails: the second read of the report.
-fn check_failing<R: Threads + Abort + Sync + AllocGlobal>(
-    rt: &R,
-    options: &str,
-    want: (Status, &str),
-) {
-    let project = text_of(rt, &TWO_IN_TURN);
-    let report = report_of(rt, &project, options);
-    let sixth = vec![in rt.alloc(); 6].expect(rt, "memory");
-    let mut shelf = shelf_with(rt.alloc(), &project, &report, sixth, 65_536).expect(rt, "memory");
-    let never = Vec::new(rt.alloc());
-    let mut out = MemSink::new(rt.alloc(), 64, never, 64).expect(rt, "memory");
-    check(rt, "check p r", &mut shelf, &mut out, want);
-}
+/// The options of a search of two jobs in turn, and what is told of its report over a shelf whose sixth call fails: the second read
+/// of the report.
+const FAILING: &[(&str, Status, &str)] = &[
+    ("", Status::ReadFault, ""),
+    (
+        "log=no",
+        Status::ReportRefused,
+        "report refused: line 9 reason 1\n",
+    ),
+];
 
 #[test]
 fn a_refused_report_is_not_read_on(rt: HostRuntime) {
-    check_failing(&rt, "", (Status::ReadFault, ""));
-    let refused = (Status::ReportRefused, "report refused: line 9 reason 1\n");
-    check_failing(&rt, "log=no", refused);
+    let project = text_of(&rt, &TWO_IN_TURN);
+    for (options, status, told) in FAILING {
+        let report = report_of(&rt, &project, options);
+        let outside = Outside {
+            failing_read: 6,
+            ..Outside::of(&project, &report)
+        };
+        check(&rt, "check p r", &outside, (*status, told));
+    }
 }

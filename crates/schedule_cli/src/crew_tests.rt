@@ -1,12 +1,11 @@
 //! Two workers, each held at some of its passes until the other has come far enough: both are at work at once, one takes a node
 //! from the other, and one closes a node by a record of the other. And a crew of eight.
 
-use crate::check_tests::{report_of, shelf_with, text_of};
-use crate::tests::words_of;
+use crate::runs::{Outside, accepts, report_of, text_of, told, told_past};
 use project_net::Project;
 use proof_log::Verdict;
-use sched_base::{Fate, Gate, MemSink, NoMemory, OpenGate};
-use scheduler::{Status, run};
+use sched_base::{Fate, Gate, NoMemory};
+use scheduler::Status;
 use search_rounds::Found;
 use std::alloc::Global;
 use std::process::Abort;
@@ -82,7 +81,7 @@ impl Gate for Holds {
 }
 
 /// Each worker is held at its first pass until the other has entered its own.
-const MEETING: [Hold; 2] = [
+const MEETING: &[Hold] = &[
     Hold {
         worker: 1,
         pass: 1,
@@ -96,7 +95,7 @@ const MEETING: [Hold; 2] = [
 ];
 
 /// Worker 2 begins once worker 1 has expanded the root, and worker 1 goes on once worker 2 has expanded a node.
-const STEALING: [Hold; 2] = [
+const STEALING: &[Hold] = &[
     Hold {
         worker: 2,
         pass: 1,
@@ -111,7 +110,7 @@ const STEALING: [Hold; 2] = [
 
 /// Worker 2 begins once worker 1 has expanded the root. Worker 1 goes on once worker 2 has expanded two nodes, and worker 2 once
 /// worker 1 has expanded six more.
-const CLOSING: [Hold; 3] = [
+const CLOSING: &[Hold] = &[
     Hold {
         worker: 2,
         pass: 1,
@@ -129,26 +128,11 @@ const CLOSING: [Hold; 3] = [
     },
 ];
 
-/// The report of two workers on a text of a project, who are held at a gate.
-fn solve_held<R: Threads + Abort + Sync + AllocGlobal>(
-    rt: &R,
-    text: &[u8],
-    gate: &Holds,
-    out: &mut MemSink,
-) -> Status {
-    let none = Vec::new(rt.alloc());
-    let mut shelf = shelf_with(rt.alloc(), text, b"", none, 65_536).expect(rt, "memory");
-    let words = words_of(rt.alloc(), "solve p workers=2").expect(rt, "memory");
-    run(rt, rt.alloc(), &words, &mut shelf, out, gate)
-}
-
 #[test]
 fn both_workers_enter(rt: HostRuntime) {
     let text = text_of(&rt, &TWO_IN_TURN);
-    let gate = Holds::new(&MEETING);
-    let never = Vec::new(rt.alloc());
-    let mut out = MemSink::new(rt.alloc(), 65_536, never, 65_536).expect(&rt, "memory");
-    let status = solve_held(&rt, &text, &gate, &mut out);
+    let gate = Holds::new(MEETING);
+    let (status, _) = told_past(&rt, "solve p workers=2", &Outside::of(&text, b""), &gate);
     assert_eq!(rt; status, Status::Done);
     assert!(rt; gate.held());
     assert!(rt; gate.first.load(Ordering::SeqCst) > 0);
@@ -171,7 +155,7 @@ fn search_stealing<R: Threads + Abort + Sync>(
     alloc: Global,
     project: &Project,
 ) -> Result<(), NoMemory> {
-    let gate = Holds::new(&STEALING);
+    let gate = Holds::new(STEALING);
     let ended = search(rt, alloc, project, 2, 100_000, &gate)?;
     let found = ended.tell(alloc)?;
     assert!(rt; gate.held());
@@ -191,37 +175,16 @@ fn a_live_record_closes(rt: HostRuntime) {
     let want =
         "psplib-report 1\nverdict optimal\nduration 5\nlower 5\njob 1 1 0\njob 2 1 0\njob 3 1 0\njob 4 1 0\njob 5 1 3\nlog yes\n- - - E\n3 1 0 E\n2 1 0 E\n1 1 0 E\n4 1 0 E\n5 1 3 L\n5 1 0 E\n4 1 2 L\n5 1 0 E\n1 1 0 C 7\n5 1 0 C 13\n5 1 0 E\n3 1 0 E\n2 1 0 C 9\nend\n";
     let text = text_of(&rt, &NO_LENGTH);
-    let gate = Holds::new(&CLOSING);
-    let never = Vec::new(rt.alloc());
-    let mut out = MemSink::new(rt.alloc(), 65_536, never, 65_536).expect(&rt, "memory");
-    let status = solve_held(&rt, &text, &gate, &mut out);
+    let gate = Holds::new(CLOSING);
+    let (status, report) = told_past(&rt, "solve p workers=2", &Outside::of(&text, b""), &gate);
     assert!(rt; gate.held());
     assert_eq!(rt; status, Status::Done);
-    assert_eq!(rt; out.bytes(), want.as_bytes());
-}
-
-/// The text of a made project of 40 jobs.
-fn made_text<R: Threads + Abort + Sync + AllocGlobal>(rt: &R) -> Vec<u8> {
-    let none = Vec::new(rt.alloc());
-    let mut shelf = shelf_with(rt.alloc(), b"", b"", none, 65_536).expect(rt, "memory");
-    let never = Vec::new(rt.alloc());
-    let mut out = MemSink::new(rt.alloc(), 65_536, never, 65_536).expect(rt, "memory");
-    let words = words_of(rt.alloc(), "make 1 40").expect(rt, "memory");
-    let _ = run(rt, rt.alloc(), &words, &mut shelf, &mut out, &OpenGate);
-    let mut text = Vec::new(rt.alloc());
-    text.extend_from_slice(out.bytes()).expect(rt, "memory");
-    text
+    assert_eq!(rt; report.as_slice(), want.as_bytes());
 }
 
 #[test]
 fn a_report_of_eight_workers_is_accepted(rt: HostRuntime) {
-    let text = made_text(&rt);
-    let report = report_of(&rt, &text, "workers=8 nodes=2000");
-    let none = Vec::new(rt.alloc());
-    let mut shelf = shelf_with(rt.alloc(), &text, &report, none, 65_536).expect(&rt, "memory");
-    let never = Vec::new(rt.alloc());
-    let mut out = MemSink::new(rt.alloc(), 64, never, 64).expect(&rt, "memory");
-    let words = words_of(rt.alloc(), "check p r").expect(&rt, "memory");
-    let status = run(&rt, rt.alloc(), &words, &mut shelf, &mut out, &OpenGate);
-    assert_eq!(rt; status, Status::Done);
+    let (_, project) = told(&rt, "make 1 40", &Outside::of(b"", b""));
+    let report = report_of(&rt, &project, "workers=8 nodes=2000");
+    assert!(rt; accepts(&rt, "check p r", &project, &report));
 }

@@ -1,45 +1,13 @@
 //! Texts that are cut off, and calls of the outside that fail.
 
-use crate::check_tests::{begin_of, report_of, shelf_with, text_of};
-use crate::tests::words_of;
+use crate::check_tests::begin_of;
+use crate::runs::{Outside, check, report_of, text_of, told};
 use log_checker::Checker;
-use sched_base::{MemShelf, MemSink, OpenGate};
-use scheduler::{Status, run};
-use std::process::Abort;
-use std::thread::Threads;
+use scheduler::Status;
 use worked_projects::{TWO_IN_TURN, build};
 
 /// More calls than any run of these tests makes.
 const MANY_CALLS: u64 = 200;
-
-/// Runs the program over a shelf, and a sink that takes so many bytes in a call at most and of which one call fails.
-fn run_on<R: Threads + Abort + Sync + AllocGlobal>(
-    rt: &R,
-    words: &str,
-    mut shelf: MemShelf,
-    failing: u64,
-    step: usize,
-) -> (Status, Vec<u8>) {
-    let failing = vec![in rt.alloc(); failing].expect(rt, "memory");
-    let mut out = MemSink::new(rt.alloc(), 4_096, failing, step.max(1)).expect(rt, "memory");
-    let words = words_of(rt.alloc(), words).expect(rt, "memory");
-    let status = run(rt, rt.alloc(), &words, &mut shelf, &mut out, &OpenGate);
-    let mut written = Vec::new(rt.alloc());
-    written.extend_from_slice(out.bytes()).expect(rt, "memory");
-    (status, written)
-}
-
-/// The same on a project and a report, where one call of the shelf fails.
-fn run_with<R: Threads + Abort + Sync + AllocGlobal>(
-    rt: &R,
-    words: &str,
-    texts: (&[u8], &[u8]),
-    failing: u64,
-) -> (Status, Vec<u8>) {
-    let failing = vec![in rt.alloc(); failing].expect(rt, "memory");
-    let shelf = shelf_with(rt.alloc(), texts.0, texts.1, failing, 64).expect(rt, "memory");
-    run_on(rt, words, shelf, 0, 4_096)
-}
 
 #[test]
 fn each_front_of_a_report_is_refused(rt: HostRuntime) {
@@ -51,9 +19,8 @@ fn each_front_of_a_report_is_refused(rt: HostRuntime) {
         let want = format!(in rt.alloc(); "report refused: line {line} reason 7\n").expect(
             &rt, "memory",
         );
-        let (status, written) = run_with(&rt, "check p r", (&project, front), 0);
-        assert_eq!(&rt; status, Status::ReportRefused);
-        assert_eq!(&rt; written.as_slice(), want.as_bytes());
+        let want = (Status::ReportRefused, want.as_str());
+        check(&rt, "check p r", &Outside::of(&project, front), want);
         if *byte == b'\n' {
             line = line.saturating_add(1);
         }
@@ -72,7 +39,7 @@ fn each_front_of_a_project_is_refused_or_whole(rt: HostRuntime) {
     let project = text_of(&rt, &TWO_IN_TURN);
     let last_number = begin_of(&project, 34);
     for length in 0..project.len() {
-        let (status, written) = run_with(&rt, "show p", (&project[..length], b""), 0);
+        let (status, written) = told(&rt, "show p", &Outside::of(&project[..length], b""));
         if length <= last_number {
             assert_eq!(&rt; status, Status::BadProject);
             assert!(&rt; tells_a_cut(&written));
@@ -89,7 +56,12 @@ fn each_call_of_the_shelf_may_fail(rt: HostRuntime) {
     let report = report_of(&rt, &project, "");
     let mut unharmed = 0u64;
     for call in 1..MANY_CALLS {
-        let (status, written) = run_with(&rt, "check p r", (&project, &report), call);
+        let outside = Outside {
+            failing_read: call,
+            step: 64,
+            ..Outside::of(&project, &report)
+        };
+        let (status, written) = told(&rt, "check p r", &outside);
         if status == Status::Done {
             unharmed = call;
             break;
@@ -106,9 +78,12 @@ fn each_call_of_the_sink_may_fail(rt: HostRuntime) {
     let report = report_of(&rt, &project, "");
     let mut unharmed = 0u64;
     for call in 1..MANY_CALLS {
-        let none = Vec::new(rt.alloc());
-        let shelf = shelf_with(rt.alloc(), &project, b"", none, 4_096).expect(&rt, "memory");
-        let (status, written) = run_on(&rt, "solve p", shelf, call, 3);
+        let outside = Outside {
+            failing_write: call,
+            step: 3,
+            ..Outside::of(&project, b"")
+        };
+        let (status, written) = told(&rt, "solve p", &outside);
         assert!(&rt; report.starts_with(&written));
         if status == Status::Done {
             unharmed = call;
@@ -122,9 +97,8 @@ fn each_call_of_the_sink_may_fail(rt: HostRuntime) {
 #[test]
 fn a_report_that_is_absent_is_a_fault(rt: HostRuntime) {
     let project = text_of(&rt, &TWO_IN_TURN);
-    let (status, written) = run_with(&rt, "check p q", (&project, b""), 0);
-    assert_eq!(&rt; status, Status::ReadFault);
-    assert!(&rt; written.is_empty());
+    let outside = Outside::of(&project, b"");
+    check(&rt, "check p q", &outside, (Status::ReadFault, ""));
 }
 
 #[test]

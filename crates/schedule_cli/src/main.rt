@@ -20,6 +20,8 @@ mod progress;
 #[cfg(test)]
 mod refusal_tests;
 #[cfg(test)]
+mod runs;
+#[cfg(test)]
 mod solve_tests;
 mod std_sink;
 #[cfg(test)]

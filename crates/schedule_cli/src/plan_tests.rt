@@ -1,11 +1,7 @@
 //! Plans of projects that are worked out by hand, and searches that begin with plans from tries.
 
-use crate::check_tests::{report_of, shelf_with, text_of};
-use crate::tests::{check, shelf_of, words_of};
-use sched_base::{MemSink, OpenGate};
-use scheduler::{Status, run};
-use std::process::Abort;
-use std::thread::Threads;
+use crate::runs::{Outside, accepts, check_with, report_of, text_of, told};
+use scheduler::Status;
 use worked_projects::{
     AFTER_A_BREAK, ASKS_TOO_MUCH, BUDGETS_ALONE, EIGHTEEN_JOBS_TIGHT, TWO_IN_TURN, WorkedProject,
 };
@@ -34,7 +30,7 @@ const SHORTENED: WorkedProject = WorkedProject {
     calendar: &[],
 };
 
-const CASES: [Case; 7] = [
+const CASES: &[Case] = &[
     Case {
         project: &SHORTENED,
         options: "",
@@ -81,34 +77,11 @@ const CASES: [Case; 7] = [
 
 #[test]
 fn worked_projects_are_planned(rt: HostRuntime) {
-    for case in &CASES {
+    for case in CASES {
         let text = text_of(&rt, case.project);
-        let none = Vec::new(rt.alloc());
-        let mut shelf = shelf_of(rt.alloc(), &text, none).expect(&rt, "memory");
-        let never = Vec::new(rt.alloc());
-        let mut out = MemSink::new(rt.alloc(), 4_096, never, 4_096).expect(&rt, "memory");
-        let words = format!(in rt.alloc(); "plan p {}", case.options).expect(&rt, "memory");
-        let want = (case.status, case.text);
-        check(&rt, words.as_str(), &mut shelf, &mut out, want);
+        let words = ("plan p", case.options);
+        check_with(&rt, words, &text, (case.status, case.text));
     }
-}
-
-/// What the program writes where a project is planned, and its status.
-fn planned<R: Threads + Abort + Sync + AllocGlobal>(
-    rt: &R,
-    project: &WorkedProject,
-    words: &str,
-) -> (Status, Vec<u8>) {
-    let text = text_of(rt, project);
-    let none = Vec::new(rt.alloc());
-    let mut shelf = shelf_of(rt.alloc(), &text, none).expect(rt, "memory");
-    let never = Vec::new(rt.alloc());
-    let mut out = MemSink::new(rt.alloc(), 4_096, never, 4_096).expect(rt, "memory");
-    let words = words_of(rt.alloc(), words).expect(rt, "memory");
-    let status = run(rt, rt.alloc(), &words, &mut shelf, &mut out, &OpenGate);
-    let mut bytes = Vec::new(rt.alloc());
-    bytes.extend_from_slice(out.bytes()).expect(rt, "memory");
-    (status, bytes)
 }
 
 /// The plans of two jobs whose modes need one of two budgets each: the one mode for the one job, and the other for the other.
@@ -119,17 +92,20 @@ const EITHER_WAY: [&str; 2] = [
 
 #[test]
 fn tries_find_a_plan_where_there_is_no_first_one(rt: HostRuntime) {
-    let (status, bytes) = planned(&rt, &BUDGETS_ALONE, "plan p tries=100");
+    let project = text_of(&rt, &BUDGETS_ALONE);
+    let (status, plan) = told(&rt, "plan p tries=100", &Outside::of(&project, b""));
     assert_eq!(rt; status, Status::Done);
     let [one, other] = EITHER_WAY;
-    assert!(rt; bytes.as_slice() == one.as_bytes() || bytes.as_slice() == other.as_bytes());
+    assert!(rt; plan.as_slice() == one.as_bytes() || plan.as_slice() == other.as_bytes());
 }
 
 #[test]
 fn the_same_tries_make_the_same_plan(rt: HostRuntime) {
-    let (status, first) = planned(&rt, &EIGHTEEN_JOBS_TIGHT, "plan p tries=100");
+    let project = text_of(&rt, &EIGHTEEN_JOBS_TIGHT);
+    let outside = Outside::of(&project, b"");
+    let (status, first) = told(&rt, "plan p tries=100", &outside);
     assert_eq!(rt; status, Status::Done);
-    let (_, again) = planned(&rt, &EIGHTEEN_JOBS_TIGHT, "plan p tries=100");
+    let (_, again) = told(&rt, "plan p tries=100", &outside);
     assert_eq!(rt; again.as_slice(), first.as_slice());
 }
 
@@ -138,14 +114,6 @@ fn reports_of_searches_from_tries_are_accepted(rt: HostRuntime) {
     let project = text_of(&rt, &EIGHTEEN_JOBS_TIGHT);
     for options in ["tries=100 nodes=300", "nodes=300 workers=4 tries=100"] {
         let report = report_of(&rt, &project, options);
-        let none = Vec::new(rt.alloc());
-        let mut shelf = shelf_with(rt.alloc(), &project, &report, none, 65_536).expect(
-            &rt, "memory",
-        );
-        let never = Vec::new(rt.alloc());
-        let mut out = MemSink::new(rt.alloc(), 64, never, 64).expect(&rt, "memory");
-        let words = words_of(rt.alloc(), "check p r").expect(&rt, "memory");
-        let status = run(&rt, rt.alloc(), &words, &mut shelf, &mut out, &OpenGate);
-        assert_eq!(&rt; status, Status::Done);
+        assert!(rt; accepts(&rt, "check p r", &project, &report));
     }
 }

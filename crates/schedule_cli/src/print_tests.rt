@@ -1,13 +1,10 @@
 //! Projects that are printed: those that are read, and those that are made.
 
-use crate::tests::{append_jobs, check, shelf_of, words_of};
-use project_net::print_project;
-use sched_base::{MemSink, OpenGate};
-use scheduler::{Status, run};
+use crate::runs::{Outside, check, text_of, told};
+use crate::tests::append_jobs;
+use scheduler::Status;
 use std::alloc::{AllocError, Global};
-use std::process::Abort;
-use std::thread::Threads;
-use worked_projects::{SHORT_OR_CHEAP, build};
+use worked_projects::SHORT_OR_CHEAP;
 
 /// A line of 72 asterisks.
 const STARS: &str = "************************************************************************\n";
@@ -118,50 +115,42 @@ fn with_carriage_returns(alloc: Global, text: &str) -> Result<String, AllocError
     Ok(lines)
 }
 
-/// Runs the program on these words over a text under the name `p`.
-fn check_printed<R: Threads + Abort + Sync + AllocGlobal>(
-    rt: &R,
-    words: &str,
-    text: &str,
-    want: (Status, &str),
-) {
-    let none = Vec::new(rt.alloc());
-    let mut shelf = shelf_of(rt.alloc(), text.as_bytes(), none).expect(rt, "memory");
-    let never = Vec::new(rt.alloc());
-    let mut out = MemSink::new(rt.alloc(), 65_536, never, 65_536).expect(rt, "memory");
-    check(rt, words, &mut shelf, &mut out, want);
-}
-
 #[test]
 fn a_text_in_columns_is_shown_canonically(rt: HostRuntime) {
     let text = with_carriage_returns(rt.alloc(), B_IN_COLUMNS).expect(&rt, "memory");
-    let project = build(rt.alloc(), &SHORT_OR_CHEAP).expect(&rt, "a project");
-    let canonical = print_project(rt.alloc(), &project).expect(&rt, "memory");
-    let want = str::from_utf8(&canonical).expect(&rt, "a text");
-    check_printed(&rt, "show p", text.as_str(), (Status::Done, want));
+    let want = text_of(&rt, &SHORT_OR_CHEAP);
+    let (status, shown) = told(&rt, "show p", &Outside::of(text.as_bytes(), b""));
+    assert_eq!(rt; status, Status::Done);
+    assert_eq!(rt; shown.as_slice(), want.as_slice());
 }
 
-#[test]
-fn as_many_jobs_as_there_may_be_are_shown(rt: HostRuntime) {
-    let mut precedence = String::new(rt.alloc());
-    append_jobs(rt.alloc(), &mut precedence, "", " 1 0").expect(&rt, "memory");
+/// The canonical text of so many jobs of duration 0; of no project, where the number isn't 128.
+fn idle_jobs(alloc: Global, number: u8) -> Result<String, AllocError> {
+    let mut precedence = String::new(alloc);
+    append_jobs(alloc, &mut precedence, "", " 1 0")?;
     let lines = Lines {
-        counts: (128, 0, 0),
+        counts: (number, 0, 0),
         horizon: 0,
         precedence: precedence.as_str(),
         heading: "jobnr. mode duration\n",
         modes: precedence.as_str(),
         amounts: "",
     };
-    let text = canonical_of(rt.alloc(), &lines).expect(&rt, "memory");
-    check_printed(&rt, "show p", text.as_str(), (Status::Done, text.as_str()));
-    let more = Lines {
-        counts: (129, 0, 0),
-        ..lines
-    };
-    let text = canonical_of(rt.alloc(), &more).expect(&rt, "memory");
+    canonical_of(alloc, &lines)
+}
+
+#[test]
+fn as_many_jobs_as_there_may_be_are_shown(rt: HostRuntime) {
+    let text = idle_jobs(rt.alloc(), 128).expect(&rt, "memory");
+    let outside = Outside::of(text.as_bytes(), b"");
+    check(&rt, "show p", &outside, (Status::Done, text.as_str()));
+}
+
+#[test]
+fn one_job_more_is_refused(rt: HostRuntime) {
+    let text = idle_jobs(rt.alloc(), 129).expect(&rt, "memory");
     let want = (Status::BadProject, "bad project: code 4 line 6\n");
-    check_printed(&rt, "show p", text.as_str(), want);
+    check(&rt, "show p", &Outside::of(text.as_bytes(), b""), want);
 }
 
 /// Three jobs one after another, worked out by hand from the first five words for seed 42.
@@ -182,27 +171,19 @@ fn the_least_made_project_is_printed(rt: HostRuntime) {
         "make 42 3 modes=1",
         "make 000000042 03 modes=01",
     ] {
-        check_printed(&rt, words, "", (Status::Done, want.as_str()));
+        check(
+            &rt,
+            words,
+            &Outside::of(b"", b""),
+            (Status::Done, want.as_str()),
+        );
     }
-}
-
-/// What the program prints, without a fault, over a text under the name `p`.
-fn printed<R: Threads + Abort + Sync + AllocGlobal>(rt: &R, words: &str, text: &[u8]) -> Vec<u8> {
-    let none = Vec::new(rt.alloc());
-    let mut shelf = shelf_of(rt.alloc(), text, none).expect(rt, "memory");
-    let never = Vec::new(rt.alloc());
-    let mut out = MemSink::new(rt.alloc(), 65_536, never, 65_536).expect(rt, "memory");
-    let words = words_of(rt.alloc(), words).expect(rt, "memory");
-    let status = run(rt, rt.alloc(), &words, &mut shelf, &mut out, &OpenGate);
-    assert_eq!(rt; status, Status::Done);
-    let mut bytes = Vec::new(rt.alloc());
-    bytes.extend_from_slice(out.bytes()).expect(rt, "memory");
-    bytes
 }
 
 #[test]
 fn the_greatest_made_project_is_read_back(rt: HostRuntime) {
-    let made = printed(&rt, "make 5 128 modes=4", b"");
-    let shown = printed(&rt, "show p", &made);
-    assert_eq!(&rt; made.as_slice(), shown.as_slice());
+    let (_, made) = told(&rt, "make 5 128 modes=4", &Outside::of(b"", b""));
+    let (status, shown) = told(&rt, "show p", &Outside::of(&made, b""));
+    assert_eq!(rt; status, Status::Done);
+    assert_eq!(rt; made.as_slice(), shown.as_slice());
 }

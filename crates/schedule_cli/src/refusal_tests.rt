@@ -1,6 +1,6 @@
 //! The refusals of a project text, as the program tells them: a canonical text with one edit.
 
-use crate::tests::check_text;
+use crate::runs::{Outside, check};
 use scheduler::Status;
 use std::alloc::{AllocError, Global};
 
@@ -73,7 +73,7 @@ fn edited(alloc: Global, edit: &Edit<'_>) -> Result<String, AllocError> {
 }
 
 /// Edits of the canonical text, each with what is told of it.
-const REFUSED: [(Edit, &str); 15] = [
+const REFUSED: &[(Edit, &str)] = &[
     // a header line that is missing
     (
         Edit {
@@ -213,27 +213,22 @@ const REFUSED: [(Edit, &str); 15] = [
 
 #[test]
 fn each_edit_is_refused(rt: HostRuntime) {
-    for (edit, told) in &REFUSED {
+    for (edit, told) in REFUSED {
         let text = edited(rt.alloc(), edit).expect(&rt, "memory");
-        check_text(&rt, text.as_bytes(), (Status::BadProject, told));
+        let outside = Outside::of(text.as_bytes(), b"");
+        check(&rt, "solve p", &outside, (Status::BadProject, told));
     }
 }
 
 #[test]
 fn the_empty_text(rt: HostRuntime) {
-    check_text(
-        &rt,
-        b"",
-        (Status::BadProject, "bad project: code 12 line 1\n"),
-    );
+    let want = (Status::BadProject, "bad project: code 12 line 1\n");
+    check(&rt, "solve p", &Outside::of(b"", b""), want);
 }
 
 #[test]
 fn a_text_that_is_too_long(rt: HostRuntime) {
     let text = vec![in rt.alloc(); b' '; 4_194_305].expect(&rt, "memory");
-    check_text(
-        &rt,
-        text.as_slice(),
-        (Status::BadProject, "bad project: code 1 line 0\n"),
-    );
+    let want = (Status::BadProject, "bad project: code 1 line 0\n");
+    check(&rt, "solve p", &Outside::of(&text, b""), want);
 }

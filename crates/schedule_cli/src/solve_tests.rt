@@ -1,15 +1,11 @@
 //! Projects that are worked out by hand, solved by one worker: the report, byte for byte.
 
-use crate::tests::{check, shelf_of, words_of};
-use project_net::print_project;
-use sched_base::{MemSink, OpenGate};
-use scheduler::{Status, run};
-use std::process::Abort;
-use std::thread::Threads;
+use crate::runs::{Outside, check_with, text_of, told};
+use scheduler::Status;
 use worked_projects::{
     AFTER_A_BREAK, ALL_AT_ONCE, ASKS_TOO_MUCH, BUDGETS_ALONE, EIGHTEEN_JOBS, LATE_BREAK,
     LONGER_MODE, NEEDS_DIFFER, NO_LENGTH, ONE_LONG_JOB, SHORT_OR_CHEAP, THREE_IN_TURN, TWINS,
-    TWO_IN_TURN, WorkedProject, build,
+    TWO_IN_TURN, WorkedProject,
 };
 
 /// A project, the options behind `solve p`, and what comes of it.
@@ -40,7 +36,7 @@ const POOR: WorkedProject = WorkedProject {
     ..SHORT_OR_CHEAP
 };
 
-const CASES: [Case; 20] = [
+const CASES: &[Case] = &[
     Case {
         project: &TWO_IN_TURN,
         options: "",
@@ -156,6 +152,12 @@ const CASES: [Case; 20] = [
         text: "psplib-report 1\nverdict limit\nduration 7\nlower 5\njob 1 1 0\njob 2 1 2\njob 3 1 5\njob 4 1 7\nlog yes\n- - - O 5\nend\n",
     },
     Case {
+        project: &AFTER_A_BREAK,
+        options: "",
+        status: Status::Done,
+        text: "psplib-report 1\nverdict optimal\nduration 7\nlower 7\njob 1 1 0\njob 2 1 2\njob 3 1 5\njob 4 1 7\nlog yes\n- - - E\n1 1 0 E\n2 1 2 E\n3 1 5 T\n3 1 2 E\n2 1 4 T\nend\n",
+    },
+    Case {
         project: &LATE_BREAK,
         options: "",
         status: Status::Done,
@@ -163,43 +165,22 @@ const CASES: [Case; 20] = [
     },
 ];
 
-/// Solves the canonical text of a project, and compares what is written.
-fn check_solved<R: Threads + Abort + Sync + AllocGlobal>(
-    rt: &R,
-    project: &WorkedProject,
-    options: &str,
-    want: (Status, &str),
-) {
-    let project = build(rt.alloc(), project).expect(rt, "a project");
-    let text = print_project(rt.alloc(), &project).expect(rt, "memory");
-    let none = Vec::new(rt.alloc());
-    let mut shelf = shelf_of(rt.alloc(), &text, none).expect(rt, "memory");
-    let never = Vec::new(rt.alloc());
-    let mut out = MemSink::new(rt.alloc(), 65_536, never, 65_536).expect(rt, "memory");
-    let words = format!(in rt.alloc(); "solve p {options}").expect(rt, "memory");
-    check(rt, words.as_str(), &mut shelf, &mut out, want);
-}
-
 #[test]
 fn worked_projects_are_solved(rt: HostRuntime) {
-    for case in &CASES {
-        check_solved(&rt, case.project, case.options, (case.status, case.text));
+    for case in CASES {
+        let text = text_of(&rt, case.project);
+        let words = ("solve p", case.options);
+        check_with(&rt, words, &text, (case.status, case.text));
     }
-}
-
-#[test]
-fn a_break_makes_the_work_late(rt: HostRuntime) {
-    let want =
-        "psplib-report 1\nverdict optimal\nduration 7\nlower 7\njob 1 1 0\njob 2 1 2\njob 3 1 5\njob 4 1 7\nlog yes\n- - - E\n1 1 0 E\n2 1 2 E\n3 1 5 T\n3 1 2 E\n2 1 4 T\nend\n";
-    check_solved(&rt, &AFTER_A_BREAK, "", (Status::Done, want));
 }
 
 #[test]
 fn eighteen_jobs_are_solved_by_any_number_of_workers(rt: HostRuntime) {
     let want =
         "psplib-report 1\nverdict optimal\nduration 18\nlower 18\njob 1 1 0\njob 2 1 0\njob 3 1 0\njob 4 1 0\njob 5 1 3\njob 6 1 3\njob 7 1 4\njob 8 1 4\njob 9 1 5\njob 10 1 2\njob 11 1 7\njob 12 1 8\njob 13 1 9\njob 14 1 8\njob 15 1 12\njob 16 1 13\njob 17 1 10\njob 18 1 18\nlog yes\n- - - T\nend\n";
+    let text = text_of(&rt, &EIGHTEEN_JOBS);
     for options in ["workers=1", "workers=2", "workers=8"] {
-        check_solved(&rt, &EIGHTEEN_JOBS, options, (Status::Done, want));
+        check_with(&rt, ("solve p", options), &text, (Status::Done, want));
     }
 }
 
@@ -211,15 +192,9 @@ const EITHER_LEFT: [&str; 2] = [
 
 #[test]
 fn two_workers_leave_one_of_two(rt: HostRuntime) {
-    let project = build(rt.alloc(), &TWO_IN_TURN).expect(&rt, "a project");
-    let text = print_project(rt.alloc(), &project).expect(&rt, "memory");
-    let none = Vec::new(rt.alloc());
-    let mut shelf = shelf_of(rt.alloc(), &text, none).expect(&rt, "memory");
-    let never = Vec::new(rt.alloc());
-    let mut out = MemSink::new(rt.alloc(), 65_536, never, 65_536).expect(&rt, "memory");
-    let words = words_of(rt.alloc(), "solve p nodes=3 workers=2").expect(&rt, "memory");
-    let status = run(&rt, rt.alloc(), &words, &mut shelf, &mut out, &OpenGate);
+    let text = text_of(&rt, &TWO_IN_TURN);
+    let (status, report) = told(&rt, "solve p nodes=3 workers=2", &Outside::of(&text, b""));
     assert_eq!(rt; status, Status::Limit);
     let [first, second] = EITHER_LEFT;
-    assert!(rt; out.bytes() == first.as_bytes() || out.bytes() == second.as_bytes());
+    assert!(rt; report.as_slice() == first.as_bytes() || report.as_slice() == second.as_bytes());
 }

@@ -1,44 +1,12 @@
 ghost use Rattle.std.specs.Prelude.{◌≤◌};
 ghost use Rattle.rcpsp_model.specs.Project.{IsJob, IsMode, nonrenewables};
 
-use crate::{
-    AFTER_A_BREAK, ALL_AT_ONCE, ASKS_TOO_MUCH, BUDGETS_ALONE, DraftRow, EIGHTEEN_JOBS,
-    EIGHTEEN_JOBS_TIGHT, LATE_BREAK, LONGER_MODE, NEEDS_DIFFER, NO_LENGTH, ONE_LONG_JOB,
-    SHORT_OR_CHEAP, THREE_IN_TURN, TWINS, TWO_IN_TURN, WorkedProject, build,
-};
+use crate::{DraftRow, NO_LENGTH, SHORT_OR_CHEAP, WorkedProject, build};
 use project_net::{BuildRefusal, CalRow, Project};
 use sched_base::NoMemory;
 use std::alloc::Global;
 use std::process::Abort;
 use std::test::Fail;
-
-/// Each worked project with its number of jobs and the tail of its first job.
-const ALL: &[(WorkedProject, u8, u32)] = &[
-    (TWO_IN_TURN, 4, 3),
-    (ALL_AT_ONCE, 4, 3),
-    (AFTER_A_BREAK, 4, 3),
-    (ASKS_TOO_MUCH, 4, 3),
-    (LATE_BREAK, 1, 3),
-    (LONGER_MODE, 4, 3),
-    (ONE_LONG_JOB, 1, 10_000),
-    (SHORT_OR_CHEAP, 4, 2),
-    (THREE_IN_TURN, 5, 2),
-    (TWINS, 6, 4),
-    (NEEDS_DIFFER, 6, 4),
-    (BUDGETS_ALONE, 2, 1),
-    (NO_LENGTH, 5, 3),
-    (EIGHTEEN_JOBS, 18, 18),
-    (EIGHTEEN_JOBS_TIGHT, 18, 18),
-];
-
-#[test]
-fn each_is_a_project(rt: HostRuntime) {
-    for (worked, jobs, tail) in ALL {
-        let project = build(rt.alloc(), worked).expect(&rt, "a project");
-        assert_eq!(rt; project.jobs(), *jobs);
-        assert_eq!(rt; project.tail(1), *tail);
-    }
-}
 
 const SHORT: DraftRow = (&[(1, &[1], &[])], &[]);
 
@@ -108,9 +76,9 @@ fn facts_of(project: &Project, job: u8) -> JobFacts
 }
 
 /// Projects with what they say of their jobs.
-const FACTS: &[(WorkedProject, &[JobFacts])] = &[
+const FACTS: &[(&WorkedProject, &[JobFacts])] = &[
     (
-        NO_LENGTH,
+        &NO_LENGTH,
         &[
             (1, 0, 3, 3, 0b00010, 0b01000),
             (1, 0, 3, 2, 0b00100, 0b00001),
@@ -120,7 +88,7 @@ const FACTS: &[(WorkedProject, &[JobFacts])] = &[
         ],
     ),
     (
-        SHORT_OR_CHEAP,
+        &SHORT_OR_CHEAP,
         &[
             (1, 0, 2, 1, 0b0000, 0b0110),
             (2, 2, 2, 2, 0b0001, 0b1000),
@@ -166,7 +134,7 @@ fn append_mode(numbers: &mut Vec<u32>, project: &Project, job: u8, mode: u8) -> 
 fn compare_budgets(rt: &impl Abort, alloc: Global, project: &Project) -> Result<(), NoMemory>
     requires { 1 ≤ nonrenewables project.now }
 {
-    let changed = project.with_budget(alloc, 1, 9)?;
+    let changed = Box::new(alloc, project.with_budget(alloc, 1, 9)?)?;
     assert_eq!(rt; changed.budgets(), [9].as_slice());
     assert_eq!(rt; changed.capacities(), project.capacities());
     Ok(())
