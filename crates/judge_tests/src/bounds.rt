@@ -17,7 +17,7 @@ use worked_projects::{
 type Judgement = (&'static [u8], Result<u32, BoundRefusal>);
 
 /// Of the two jobs in conflict.
-const JUDGEMENTS: [Judgement; 14] = [
+static JUDGEMENTS: [Judgement; 14] = [
     (b"psplib-bound 1\nbound 5\nD 2 3 1\nF 2\nend\n", Ok(5)),
     (b"psplib-bound 1\nbound 0\nend\n", Ok(0)),
     (
@@ -88,7 +88,7 @@ fn judgements(rt: HostRuntime) -> Result<(), Fail> {
 }
 
 /// Projects whose windows show a bound above 0.
-const BOUNDED: [WorkedProject; 4] = [TWO_IN_TURN, THREE_IN_TURN, AFTER_A_BREAK, EIGHTEEN_JOBS];
+static BOUNDED: [WorkedProject; 4] = [TWO_IN_TURN, THREE_IN_TURN, AFTER_A_BREAK, EIGHTEEN_JOBS];
 
 /// What the text of a bound comes to.
 fn judge_bound(

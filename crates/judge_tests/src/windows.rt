@@ -23,7 +23,7 @@ struct Case {
     bound: u32,
 }
 
-const CASES: [Case; 8] = [
+static CASES: [Case; 8] = [
     Case {
         name: "two jobs in conflict",
         project: TWO_IN_TURN,
@@ -102,7 +102,7 @@ fn bound_of_eighteen_jobs(rt: HostRuntime) -> Result<(), Fail> {
 type Refutation = (u32, &'static [BoundStep], bool);
 
 /// Of the two jobs in conflict.
-const REFUTATIONS: [Refutation; 12] = [
+static REFUTATIONS: [Refutation; 12] = [
     (
         4,
         &[BoundStep::Disjoint(2, 3, 1), BoundStep::Empty(2)],
@@ -150,9 +150,9 @@ const REFUTATIONS: [Refutation; 12] = [
 ];
 
 fn compare_refutations(rt: &impl Abort, project: &Project) {
-    for (end, steps, is_refuted) in REFUTATIONS {
-        if end <= 1_290_000 {
-            assert_eq!(rt; refutes(project, end, steps), is_refuted, "{end}");
+    for (end, steps, is_refuted) in &REFUTATIONS {
+        if *end <= 1_290_000 {
+            assert_eq!(rt; refutes(project, *end, steps), *is_refuted, "{end}");
         }
     }
 }
@@ -180,7 +180,7 @@ fn two_ends(rt: HostRuntime) -> Result<(), Fail> {
 }
 
 /// Windows of a caller's own: job 2 runs from period 1 to 4 in any case, which leaves no room for job 3 by period 5.
-const OWN: [Window; 4] = [
+static OWN: [Window; 4] = [
     Window {
         earliest_start: 0,
         latest_finish: 5,
@@ -215,7 +215,7 @@ fn own_windows(rt: HostRuntime) -> Result<(), Fail> {
 }
 
 /// Lines as bytes, and what they say.
-const LINES: [(&[u8], Option<BoundLine>); 18] = [
+static LINES: [(&[u8], Option<BoundLine>); 18] = [
     (b"psplib-bound 1", Some(BoundLine::Title)),
     (b"psplib-bound 2", None),
     (b"bound 0", Some(BoundLine::Bound(0))),
@@ -251,16 +251,16 @@ fn is_written(line: BoundLine, bytes: &[u8]) -> bool {
 
 #[test]
 fn lines(rt: HostRuntime) {
-    for (bytes, line) in LINES {
-        assert_eq!(rt; parse_bound_line(bytes), line);
+    for (bytes, line) in &LINES {
+        assert_eq!(rt; parse_bound_line(bytes), *line);
         if let Some(line) = line {
-            assert!(rt; is_written(line, bytes));
+            assert!(rt; is_written(*line, bytes));
         }
     }
 }
 
 /// Steps judged one by one in the first windows of the two jobs in conflict for the end 4.
-const JUDGED: [(BoundStep, Judged); 6] = [
+static JUDGED: [(BoundStep, Judged); 6] = [
     (BoundStep::Head(1, 2), Judged::NotAllowed),
     (BoundStep::Tail(2, 4), Judged::NotAllowed),
     (BoundStep::Disjoint(2, 3, 1), Judged::Further),

@@ -32,7 +32,7 @@ fn is_as(schedule: &Schedule, placings: &[(u8, u32)]) -> bool {
     true
 }
 
-const CASES: [Case; 9] = [
+static CASES: [Case; 9] = [
     Case {
         name: "the cheap modes",
         project: SHORT_OR_CHEAP,

@@ -66,7 +66,7 @@ const TWO_BREAKS: WorkedProject = WorkedProject {
     ],
 };
 
-const CASES: [Case; 6] = [
+static CASES: [Case; 6] = [
     Case {
         name: "two in turn",
         project: TWO_IN_TURN,

@@ -24,7 +24,7 @@ struct Case {
     least: Option<u32>,
 }
 
-const CASES: [Case; 6] = [
+static CASES: [Case; 6] = [
     Case {
         name: "two modes",
         project: SHORT_OR_CHEAP,

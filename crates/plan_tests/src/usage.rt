@@ -106,7 +106,7 @@ const EIGHTEEN: WorkedProject = WorkedProject {
 };
 
 /// Their starts in a plan.
-const STARTS: [(u8, u32); 18] = [
+static STARTS: [(u8, u32); 18] = [
     (1, 0),
     (2, 0),
     (3, 0),
@@ -128,7 +128,7 @@ const STARTS: [(u8, u32); 18] = [
 ];
 
 /// What that plan takes of either resource in each period.
-const USAGE: [(u32, u64, u64); 19] = [
+static USAGE: [(u32, u64, u64); 19] = [
     (0, 9, 9),
     (1, 9, 9),
     (2, 11, 5),
@@ -155,13 +155,10 @@ fn place_all(rt: &impl Abort, project: &Project, profile: &mut Profile)
     requires { IsProfileOf project.now profile.old }
     ensures { IsProfileOf project.now profile.new }
 {
-    for (job, start) in STARTS {
-        assert_eq!(rt;
-            earliest_from(rt, project, profile, job, start),
-            Some(start),
-            "job {job}"
-        );
-        place_at(rt, project, profile, job, start);
+    for (job, start) in &STARTS {
+        let earliest = earliest_from(rt, project, profile, *job, *start);
+        assert_eq!(rt; earliest, Some(*start), "job {job}");
+        place_at(rt, project, profile, *job, *start);
     }
 }
 
@@ -170,13 +167,12 @@ fn compare_usage(rt: &impl Abort, project: &Project, profile: &Profile)
     requires { IsProfileOf project.now profile.now }
 {
     assert_eq!(rt; project.renewables(), 2);
-    for (period, first, second) in USAGE {
-        assert_eq!(rt; profile.usage(project, 1, period), first, "period {period}");
-        assert_eq!(rt;
-            profile.usage(project, 2, period),
-            second,
-            "period {period}"
+    for (period, first, second) in &USAGE {
+        let usage = (
+            profile.usage(project, 1, *period),
+            profile.usage(project, 2, *period),
         );
+        assert_eq!(rt; usage, (*first, *second), "period {period}");
     }
 }
 
@@ -209,7 +205,7 @@ const BESIDE_A_FULL_PERIOD: WorkedProject = WorkedProject {
 };
 
 /// A job, a floor, and its earliest start from there on, where job 1 fills period 1.
-const STARTS_BESIDE: [(u8, u32, Option<u32>); 6] = [
+static STARTS_BESIDE: [(u8, u32, Option<u32>); 6] = [
     (2, 0, Some(0)),
     (2, 1, Some(2)),
     (3, 0, Some(2)),
@@ -221,12 +217,9 @@ const STARTS_BESIDE: [(u8, u32, Option<u32>); 6] = [
 fn compare_starts(rt: &impl Abort, alloc: Global, project: &Project) {
     let mut profile = Profile::empty(alloc, project);
     place_at(rt, project, &mut profile, 1, 1);
-    for (job, floor, start) in STARTS_BESIDE {
-        assert_eq!(rt;
-            earliest_from(rt, project, &profile, job, floor),
-            start,
-            "job {job} from {floor}"
-        );
+    for (job, floor, start) in &STARTS_BESIDE {
+        let earliest = earliest_from(rt, project, &profile, *job, *floor);
+        assert_eq!(rt; earliest, *start, "job {job} from {floor}");
     }
 }
 

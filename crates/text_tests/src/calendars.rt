@@ -62,22 +62,29 @@ fn calendars_are_read_and_printed(rt: HostRuntime) {
     check_printed(&rt, text.as_bytes(), canonical.as_str());
 }
 
+/// Calendars that are refused: the fault, and its line.
+const REFUSED: &[(&str, Fault, u32)] = &[
+    ("1\n1 2 2 1\n", Fault::CalendarOrder, 39),
+    ("1\n1 0 2 4\n", Fault::OutOfLimit, 39),
+    ("1\n2 0 2 1\n", Fault::OutOfLimit, 39),
+    ("257\n1 0 2 1\n", Fault::OutOfLimit, 38),
+    ("2\n1 0 2 1\n1 1 3 1\n", Fault::CalendarOrder, 40),
+];
+
+/// Compares what a text with a calendar is refused for.
+fn check_calendar<R: Abort + AllocGlobal>(rt: &R, calendar: &str, fault: Fault, line: u32) {
+    let worked = Worked {
+        calendar,
+        ..SLOW_START
+    };
+    let text = canonical_text(rt.alloc(), &worked).expect(rt, "memory");
+    check_refused(rt, text.as_bytes(), fault, line);
+}
+
 #[test]
 fn rows_out_of_limit_or_order_are_refused(rt: HostRuntime) {
-    let table: [(&str, Fault, u32); 5] = [
-        ("1\n1 2 2 1\n", Fault::CalendarOrder, 39),
-        ("1\n1 0 2 4\n", Fault::OutOfLimit, 39),
-        ("1\n2 0 2 1\n", Fault::OutOfLimit, 39),
-        ("257\n1 0 2 1\n", Fault::OutOfLimit, 38),
-        ("2\n1 0 2 1\n1 1 3 1\n", Fault::CalendarOrder, 40),
-    ];
-    for (calendar, fault, line) in &table {
-        let worked = Worked {
-            calendar: *calendar,
-            ..SLOW_START
-        };
-        let text = canonical_text(rt.alloc(), &worked).expect(&rt, "memory");
-        check_refused(&rt, text.as_bytes(), *fault, *line);
+    for (calendar, fault, line) in REFUSED {
+        check_calendar(&rt, calendar, *fault, *line);
     }
 }
 
@@ -99,18 +106,20 @@ fn the_most_rows_are_read(rt: HostRuntime) {
     check_refused(&rt, text.as_bytes(), Fault::OutOfLimit, 38);
 }
 
+/// How many bytes are kept of the calendar's part: the fault, and its line.
+const CUT: &[(usize, Fault, u32)] = &[
+    (4, Fault::WordsLeft, 36),
+    (9, Fault::TextEnds, 36),
+    (20, Fault::TextEnds, 37),
+    (37, Fault::TextEnds, 38),
+    (41, Fault::TextEnds, 39),
+    (43, Fault::TextEnds, 39),
+    (45, Fault::TextEnds, 39),
+    (2891, Fault::TextEnds, 294),
+];
+
 #[test]
 fn calendars_that_are_cut_are_refused(rt: HostRuntime) {
-    let table: [(usize, Fault, u32); 8] = [
-        (4, Fault::WordsLeft, 36),
-        (9, Fault::TextEnds, 36),
-        (20, Fault::TextEnds, 37),
-        (37, Fault::TextEnds, 38),
-        (41, Fault::TextEnds, 39),
-        (43, Fault::TextEnds, 39),
-        (45, Fault::TextEnds, 39),
-        (2891, Fault::TextEnds, 294),
-    ];
     let rows = short_rows(rt.alloc(), 256).expect(&rt, "memory");
     let most = Worked {
         calendar: rows.as_str(),
@@ -118,7 +127,7 @@ fn calendars_that_are_cut_are_refused(rt: HostRuntime) {
     };
     let text = canonical_text(rt.alloc(), &most).expect(&rt, "memory");
     let before = canonical_text(rt.alloc(), &ONE_RESOURCE).expect(&rt, "memory");
-    for (bytes, fault, line) in &table {
+    for (bytes, fault, line) in CUT {
         let kept = before.len().saturating_add(*bytes);
         check_refused(&rt, front(text.as_bytes(), kept), *fault, *line);
     }

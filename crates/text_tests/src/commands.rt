@@ -16,7 +16,7 @@ fn words_in(alloc: Global, line: &str) -> Result<Vec<String>, AllocError> {
 }
 
 /// Words that are a command.
-const COMMANDS: [(&str, Command); 13] = [
+const COMMANDS: &[(&str, Command)] = &[
     (
         "solve p",
         Command::Solve {
@@ -127,14 +127,14 @@ const COMMANDS: [(&str, Command); 13] = [
 
 #[test]
 fn words_that_are_a_command(rt: HostRuntime) {
-    for (line, want) in &COMMANDS {
+    for (line, want) in COMMANDS {
         let words = words_in(rt.alloc(), line).expect(&rt, "memory");
         assert!(&rt; parse_words(words.as_slice()) == Ok(*want), "{line}");
     }
 }
 
 /// Words that are no command, and the place of the first that can't stand.
-const REFUSED: [(&str, u32); 54] = [
+const REFUSED: &[(&str, u32)] = &[
     ("", 1),
     ("--help", 1),
     ("solve", 2),
@@ -193,7 +193,7 @@ const REFUSED: [(&str, u32); 54] = [
 
 #[test]
 fn words_that_are_none(rt: HostRuntime) {
-    for (line, place) in &REFUSED {
+    for (line, place) in REFUSED {
         let words = words_in(rt.alloc(), line).expect(&rt, "memory");
         let want = Err(BadWords { place: *place });
         assert!(&rt; parse_words(words.as_slice()) == want, "{line}");

@@ -2,6 +2,7 @@
 
 use psplib_layout::{Content, Fault, ReadError, Refusal, Source, read_content};
 use std::alloc::{AllocError, Global};
+use std::process::Abort;
 use std::test::Fail;
 
 const TEXT: &[u8] = b"************************************************************************
@@ -95,56 +96,66 @@ fn refusal_of(alloc: Global, text: &[u8]) -> Option<Refusal> {
     }
 }
 
+/// A line of the text gives way to another, or goes: the fault, and its line.
+type Edit = (usize, Option<&'static [u8]>, Fault, u32);
+
+const REFUSALS: &[Edit] = &[
+    (7, None, Fault::MissingPart, 7),
+    (7, Some(b"horizon 5"), Fault::MissingPart, 7),
+    (5, Some(b"projects"), Fault::MissingPart, 5),
+    (6, Some(b"jobs : "), Fault::NotANumber, 6),
+    (6, Some(b"jobs : 129"), Fault::OutOfLimit, 6),
+    (6, Some(b"jobs : 0"), Fault::OutOfLimit, 6),
+    (9, Some(b"- renewable : 17"), Fault::OutOfLimit, 9),
+    (20, Some(b"2 1 x 4"), Fault::NotANumber, 20),
+    (28, Some(b"2 1 10001 2"), Fault::OutOfLimit, 28),
+    (
+        28,
+        Some(b"2 1 99999999999999999999999999 2"),
+        Fault::OutOfLimit,
+        28,
+    ),
+    (5, Some(b"projects : 2"), Fault::NotOneProject, 5),
+    (
+        11,
+        Some(b"- doubly constrained : 1"),
+        Fault::DoublyConstrained,
+        11,
+    ),
+    (21, Some(b"4 1 1 4"), Fault::WrongJobNumber, 21),
+    (28, Some(b"2 2 3 2"), Fault::WrongModeNumber, 28),
+    (20, Some(b"2 0 1 4"), Fault::NoModes, 20),
+    (20, Some(b"2 17 1 4"), Fault::OutOfLimit, 20),
+    (20, Some(b"2 1 1 5"), Fault::SuccessorOutOfRange, 20),
+    (20, Some(b"2 1 1 0"), Fault::SuccessorOutOfRange, 20),
+    (20, Some(b"2 1 1 4 4"), Fault::WrongJobNumber, 20),
+    (34, None, Fault::TextEnds, 36),
+    (22, Some(b"4 1 0 7"), Fault::WordsLeft, 22),
+    (22, Some(b"4 1 0\n7"), Fault::MissingPart, 23),
+    (35, Some(b"more"), Fault::WordsLeft, 35),
+    (17, Some(b"PRECEDENCE"), Fault::TextEnds, 37),
+];
+
+/// Compares what the text with an edit is refused for.
+fn compare_refusal(rt: &impl Abort, alloc: Global, edit: &Edit) -> Result<(), AllocError> {
+    let (line, new, fault, at) = *edit;
+    let text = edited(alloc, line, new)?;
+    let wanted = Refusal { fault, line: at };
+    let found = refusal_of(alloc, &text);
+    assert_eq!(rt; found, Some(wanted), "line {line}: {fault:?}");
+    Ok(())
+}
+
 #[test]
 fn refusals(rt: HostRuntime) -> Result<(), Fail> {
-    let table: [(usize, Option<&[u8]>, Fault, u32); 24] = [
-        (7, None, Fault::MissingPart, 7),
-        (7, Some(b"horizon 5"), Fault::MissingPart, 7),
-        (5, Some(b"projects"), Fault::MissingPart, 5),
-        (6, Some(b"jobs : "), Fault::NotANumber, 6),
-        (6, Some(b"jobs : 129"), Fault::OutOfLimit, 6),
-        (6, Some(b"jobs : 0"), Fault::OutOfLimit, 6),
-        (9, Some(b"- renewable : 17"), Fault::OutOfLimit, 9),
-        (20, Some(b"2 1 x 4"), Fault::NotANumber, 20),
-        (28, Some(b"2 1 10001 2"), Fault::OutOfLimit, 28),
-        (
-            28,
-            Some(b"2 1 99999999999999999999999999 2"),
-            Fault::OutOfLimit,
-            28,
-        ),
-        (5, Some(b"projects : 2"), Fault::NotOneProject, 5),
-        (
-            11,
-            Some(b"- doubly constrained : 1"),
-            Fault::DoublyConstrained,
-            11,
-        ),
-        (21, Some(b"4 1 1 4"), Fault::WrongJobNumber, 21),
-        (28, Some(b"2 2 3 2"), Fault::WrongModeNumber, 28),
-        (20, Some(b"2 0 1 4"), Fault::NoModes, 20),
-        (20, Some(b"2 17 1 4"), Fault::OutOfLimit, 20),
-        (20, Some(b"2 1 1 5"), Fault::SuccessorOutOfRange, 20),
-        (20, Some(b"2 1 1 0"), Fault::SuccessorOutOfRange, 20),
-        (20, Some(b"2 1 1 4 4"), Fault::WrongJobNumber, 20),
-        (34, None, Fault::TextEnds, 36),
-        (22, Some(b"4 1 0 7"), Fault::WordsLeft, 22),
-        (22, Some(b"4 1 0\n7"), Fault::MissingPart, 23),
-        (35, Some(b"more"), Fault::WordsLeft, 35),
-        (17, Some(b"PRECEDENCE"), Fault::TextEnds, 37),
-    ];
-    for (line, new, fault, at) in &table {
-        let text = edited(rt.alloc(), *line, *new)?;
-        let wanted = Refusal {
-            fault: *fault,
-            line: *at,
-        };
-        assert_eq!(rt;
-            refusal_of(rt.alloc(), &text),
-            Some(wanted),
-            "line {line}: {fault:?}"
-        );
+    for edit in REFUSALS {
+        compare_refusal(&rt, rt.alloc(), edit)?;
     }
+    Ok(())
+}
+
+#[test]
+fn a_text_that_is_too_long(rt: HostRuntime) -> Result<(), Fail> {
     let blanks = vec![in rt.alloc(); b' '; 4_194_305]?;
     let long = Refusal {
         fault: Fault::TextTooLong,
@@ -173,25 +184,37 @@ fn numbers_of(content: &Content, alloc: Global) -> Result<Vec<u32>, AllocError> 
     Ok(numbers)
 }
 
+/// Texts with the numbers of their contents.
+const CONTENTS: &[(&[u8], &[u32])] = &[
+    (
+        TEXT,
+        &[4, 1, 2, 3, 1, 4, 1, 4, 1, 0, 0, 3, 2, 2, 2, 0, 0, 3],
+    ),
+    (
+        WRAPPED,
+        &[
+            4, 1, 2, 3, 2, 4, 2, 4, 4, 1, 0, 0, 0, 2, 1, 3, 4, 1, 1, 2, 1, 3, 4, 1, 1, 0, 0, 0, 2,
+            4,
+        ],
+    ),
+];
+
+/// Compares the numbers of what a text has.
+fn compare_content<R: Abort + AllocGlobal>(
+    rt: &R,
+    text: &[u8],
+    wanted: &[u32],
+) -> Result<(), Fail> {
+    let content = read_content(rt.alloc(), text)?;
+    let numbers = numbers_of(&content, rt.alloc())?;
+    assert_eq!(rt; numbers.as_slice(), wanted);
+    Ok(())
+}
+
 #[test]
 fn contents(rt: HostRuntime) -> Result<(), Fail> {
-    let table: [(&[u8], &[u32]); 2] = [
-        (
-            TEXT,
-            &[4, 1, 2, 3, 1, 4, 1, 4, 1, 0, 0, 3, 2, 2, 2, 0, 0, 3],
-        ),
-        (
-            WRAPPED,
-            &[
-                4, 1, 2, 3, 2, 4, 2, 4, 4, 1, 0, 0, 0, 2, 1, 3, 4, 1, 1, 2, 1, 3, 4, 1, 1, 0, 0, 0,
-                2, 4,
-            ],
-        ),
-    ];
-    for (text, wanted) in &table {
-        let content = read_content(rt.alloc(), text)?;
-        let numbers = numbers_of(&content, rt.alloc())?;
-        assert_eq!(rt; numbers.as_slice(), *wanted);
+    for (text, wanted) in CONTENTS {
+        compare_content(&rt, text, wanted)?;
     }
     Ok(())
 }
@@ -208,10 +231,12 @@ fn lines_of_jobs(rt: HostRuntime) -> Result<(), Fail> {
     Ok(())
 }
 
+/// Texts that end too soon, and on which line.
+const SHORT_TEXTS: &[(&[u8], u32)] = &[(b"", 1), (b"projects : 1", 1), (b"\nprojects : 1\n", 3)];
+
 #[test]
 fn short_texts(rt: HostRuntime) {
-    let table: [(&[u8], u32); 3] = [(b"", 1), (b"projects : 1", 1), (b"\nprojects : 1\n", 3)];
-    for (text, line) in &table {
+    for (text, line) in SHORT_TEXTS {
         let wanted = Refusal {
             fault: Fault::TextEnds,
             line: *line,

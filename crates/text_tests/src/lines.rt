@@ -23,35 +23,37 @@ fn are_lines(words: &Words<'_>, rows: &[Row]) -> bool {
     true
 }
 
+/// Texts with their kept lines.
+const TEXTS: &[(&[u8], &[Row])] = &[
+    (b"", &[]),
+    (b"\n", &[]),
+    (b" \t\r\x0B\x0C", &[]),
+    (b"* *", &[]),
+    (b"- -", &[]),
+    (b"*-", &[(1, &[b"*-"])]),
+    (b"* -", &[(1, &[b"*", b"-"])]),
+    (b"\x1A", &[]),
+    (b"\x1A\x1A", &[(1, &[b"\x1A"])]),
+    (b"a\n\x1A", &[(1, &[b"a"])]),
+    (b"a\x1A", &[(1, &[b"a"])]),
+    (b"\x1A\n", &[(1, &[b"\x1A"])]),
+    (b"a b\r\nc\r\n", &[(1, &[b"a", b"b"]), (2, &[b"c"])]),
+    (b"a\rb", &[(1, &[b"a", b"b"])]),
+    (b"\x00 \x00\x00", &[(1, &[b"\x00", b"\x00\x00"])]),
+    (b"\n\n a\n***\n\nb", &[(3, &[b"a"]), (6, &[b"b"])]),
+    (
+        b"****\r\njobs : 2\r\n----\r\n1 1 3 2\r\n  3 4\r\n\x1A",
+        &[
+            (2, &[b"jobs", b":", b"2"]),
+            (4, &[b"1", b"1", b"3", b"2"]),
+            (5, &[b"3", b"4"]),
+        ],
+    ),
+];
+
 #[test]
 fn lines_and_words(rt: HostRuntime) -> Result<(), Fail> {
-    let table: [(&[u8], &[Row]); 17] = [
-        (b"", &[]),
-        (b"\n", &[]),
-        (b" \t\r\x0B\x0C", &[]),
-        (b"* *", &[]),
-        (b"- -", &[]),
-        (b"*-", &[(1, &[b"*-"])]),
-        (b"* -", &[(1, &[b"*", b"-"])]),
-        (b"\x1A", &[]),
-        (b"\x1A\x1A", &[(1, &[b"\x1A"])]),
-        (b"a\n\x1A", &[(1, &[b"a"])]),
-        (b"a\x1A", &[(1, &[b"a"])]),
-        (b"\x1A\n", &[(1, &[b"\x1A"])]),
-        (b"a b\r\nc\r\n", &[(1, &[b"a", b"b"]), (2, &[b"c"])]),
-        (b"a\rb", &[(1, &[b"a", b"b"])]),
-        (b"\x00 \x00\x00", &[(1, &[b"\x00", b"\x00\x00"])]),
-        (b"\n\n a\n***\n\nb", &[(3, &[b"a"]), (6, &[b"b"])]),
-        (
-            b"****\r\njobs : 2\r\n----\r\n1 1 3 2\r\n  3 4\r\n\x1A",
-            &[
-                (2, &[b"jobs", b":", b"2"]),
-                (4, &[b"1", b"1", b"3", b"2"]),
-                (5, &[b"3", b"4"]),
-            ],
-        ),
-    ];
-    for (text, rows) in &table {
+    for (text, rows) in TEXTS {
         let words = lex(rt.alloc(), text)?;
         assert!(rt; are_lines(&words, rows), "{text:?}");
     }

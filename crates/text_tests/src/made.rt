@@ -72,29 +72,25 @@ fn the_least_project(rt: HostRuntime) -> Result<(), Fail> {
     Ok(())
 }
 
+/// The checksum of the text of a made project.
+fn sum_of(alloc: Global, seed: u64, jobs: u8, modes: u8) -> Result<u64, NoMemory>
+    requires some { 3 ≤ jobs }
+    requires few { jobs ≤ 128 }
+    requires some_mode { 1 ≤ modes }
+    requires few_modes { modes ≤ 4 }
+{
+    let text = text(alloc, seed, jobs, modes)?;
+    Ok(checksum(&text))
+}
+
 /// The checksums are those of the texts that another program makes.
 #[test]
 fn projects_of_each_size(rt: HostRuntime) -> Result<(), Fail> {
     let alloc = rt.alloc();
-    assert_eq!(rt;
-        checksum(text(alloc, 1, 20, 1)?.as_slice()),
-        0x28d0_5120_ae97_016e
-    );
-    assert_eq!(rt;
-        checksum(text(alloc, 1, 20, 4)?.as_slice()),
-        0xd922_c47d_d53a_63f3
-    );
-    assert_eq!(rt;
-        checksum(text(alloc, 7, 30, 3)?.as_slice()),
-        0xd05c_9fe6_9a4c_56c4
-    );
-    assert_eq!(rt;
-        checksum(text(alloc, 999_999_999, 64, 2)?.as_slice()),
-        0xbcab_8133_8e96_1f5f
-    );
-    assert_eq!(rt;
-        checksum(text(alloc, 2, 128, 4)?.as_slice()),
-        0x2965_823b_78ff_0df4
-    );
+    assert_eq!(rt; sum_of(alloc, 1, 20, 1)?, 0x28d0_5120_ae97_016e);
+    assert_eq!(rt; sum_of(alloc, 1, 20, 4)?, 0xd922_c47d_d53a_63f3);
+    assert_eq!(rt; sum_of(alloc, 7, 30, 3)?, 0xd05c_9fe6_9a4c_56c4);
+    assert_eq!(rt; sum_of(alloc, 999_999_999, 64, 2)?, 0xbcab_8133_8e96_1f5f);
+    assert_eq!(rt; sum_of(alloc, 2, 128, 4)?, 0x2965_823b_78ff_0df4);
     Ok(())
 }

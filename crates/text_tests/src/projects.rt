@@ -5,6 +5,7 @@ ghost use Rattle.rcpsp_model.specs.Project.{IsJob, IsMode};
 use project_net::Project;
 use psplib_reader::{Fault, ReadError, Refusal, read_project};
 use std::alloc::{AllocError, Global};
+use std::process::Abort;
 use std::test::Fail;
 
 /// Four jobs, two of which have two modes, in the usual layout.
@@ -111,22 +112,30 @@ fn reads_the_usual_layout(rt: HostRuntime) -> Result<(), Fail> {
     Ok(())
 }
 
+/// A line of the text gives way to another: the fault, and its line.
+type Edit = (usize, &'static [u8], Fault, u32);
+
+const CYCLES: &[Edit] = &[
+    (21, b"3 2 1 3", Fault::Cycle, 21),
+    (22, b"4 1 1 2", Fault::Cycle, 20),
+    (21, b"3 2 2 4\n1", Fault::Cycle, 19),
+    (21, b"3 2 2 3 5", Fault::SuccessorOutOfRange, 21),
+];
+
+/// Compares what the text with an edit is refused for.
+fn compare_refusal(rt: &impl Abort, alloc: Global, edit: &Edit) -> Result<(), AllocError> {
+    let (line, new, fault, at) = *edit;
+    let text = edited(alloc, line, new)?;
+    let wanted = Refusal { fault, line: at };
+    let error = read_project(alloc, &text).err();
+    assert_eq!(rt; error, Some(ReadError::Refused(wanted)), "line {line}");
+    Ok(())
+}
+
 #[test]
 fn refuses_cycles(rt: HostRuntime) -> Result<(), Fail> {
-    let table: [(usize, &[u8], Fault, u32); 4] = [
-        (21, b"3 2 1 3", Fault::Cycle, 21),
-        (22, b"4 1 1 2", Fault::Cycle, 20),
-        (21, b"3 2 2 4\n1", Fault::Cycle, 19),
-        (21, b"3 2 2 3 5", Fault::SuccessorOutOfRange, 21),
-    ];
-    for (line, new, fault, at) in &table {
-        let text = edited(rt.alloc(), *line, *new)?;
-        let wanted = Refusal {
-            fault: *fault,
-            line: *at,
-        };
-        let error = read_project(rt.alloc(), &text).err();
-        assert_eq!(rt; error, Some(ReadError::Refused(wanted)), "line {line}");
+    for edit in CYCLES {
+        compare_refusal(&rt, rt.alloc(), edit)?;
     }
     Ok(())
 }

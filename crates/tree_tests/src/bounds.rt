@@ -40,7 +40,7 @@ fn are_works(project: &Project, node: &Node, works: &[Option<u32>]) -> bool
     true
 }
 
-const CASES: [Case; 12] = [
+static CASES: [Case; 12] = [
     Case {
         name: "a job in use",
         project: TWO_IN_TURN,

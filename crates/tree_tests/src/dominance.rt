@@ -25,7 +25,7 @@ struct PairRow {
     dominates: bool,
 }
 
-const PAIRS: [PairRow; 8] = [
+static PAIRS: [PairRow; 8] = [
     PairRow {
         name: "no job",
         project: TWINS,

@@ -83,7 +83,7 @@ const ALL_PLACED: &[EntryRow] = &[(3, 1, 0), (2, 1, 0), (1, 1, 0), (4, 1, 0), (5
 
 const SHORT_PLACED: &[EntryRow] = &[(1, 1, 0), (2, 1, 0)];
 
-const CASES: [Case; 10] = [
+static CASES: [Case; 10] = [
     Case {
         name: "the root",
         project: NO_LENGTH,

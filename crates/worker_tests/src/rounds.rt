@@ -25,7 +25,7 @@ struct Case {
     fate: Fate,
 }
 
-const CASES: [Case; 6] = [
+static CASES: [Case; 6] = [
     Case {
         project: TWO_IN_TURN,
         verdict: Verdict::Limit {

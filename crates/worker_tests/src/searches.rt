@@ -30,7 +30,7 @@ struct Case {
     log: &'static [Line],
 }
 
-const CASES: [Case; 5] = [
+static CASES: [Case; 5] = [
     Case {
         name: "two in turn",
         project: &TWO_IN_TURN,
@@ -167,7 +167,7 @@ fn searches_of_one_worker(rt: HostRuntime) -> Result<(), Fail> {
 }
 
 /// Projects that are searched by crews of several sizes.
-const SHARED: [&WorkedProject; 5] = [
+static SHARED: [&WorkedProject; 5] = [
     &TWO_IN_TURN,
     &TWINS,
     &NO_LENGTH,

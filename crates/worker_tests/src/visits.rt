@@ -42,7 +42,7 @@ const TAIL: Option<Close> = Some(Close::TailBound);
 
 const LEAF: Option<Close> = Some(Close::Leaf);
 
-const RUNS: [Run; 4] = [
+static RUNS: [Run; 4] = [
     Run {
         name: "two in turn",
         project: &TWO_IN_TURN,

@@ -1,0 +1,10 @@
+use Rattle.std.proofs.Common.{arith, subst}
+use Rattle.scheduler.specs.declared.reading.TheConstants.{MOST_READ}
+use Rattle.scheduler.specs.Answer.{IsOutcomeOf}
+use Rattle.scheduler.proofs.TextFronts.{told_outcome}
+use Rattle.scheduler.proofs.answering.bound_under.Goals as goal
+
+pub returns-in_ok-bound_for-clause-answer : goal.returns-in_ok-bound_for-clause-answer
+returns-in_ok-bound_for-clause-answer g c words bound project =
+    told_outcome words _ _ _ _ MOST_READ _ (omega arith) project c.in_ok-text.ensures.text
+    (subst (λ bytes. IsOutcomeOf words bytes c.in_ok-bound_for.field-0) c.deref.ensures.value (c.in_ok-bound_for.ensures.outcome words bound))
