@@ -101,13 +101,18 @@ fn numbers_of(alloc: Global, project: &Project) -> Result<Vec<u128>, AllocError>
     Ok(numbers)
 }
 
+/// The numbers of the project that a text is.
+fn numbers_read(alloc: Global, text: &[u8]) -> Result<Vec<u128>, Fail> {
+    let project = read_project(alloc, text)?;
+    Ok(numbers_of(alloc, &project)?)
+}
+
 #[test]
 fn reads_the_usual_layout(rt: HostRuntime) -> Result<(), Fail> {
     let wanted: &[u128] = &[
         0, 0, 0, 0b0110, 2, 1, 3, 4, 1, 1, 0b1000, 2, 1, 3, 4, 1, 1, 0b1000, 0, 0, 0, 0, 2, 4,
     ];
-    let project = read_project(rt.alloc(), TEXT)?;
-    let numbers = numbers_of(rt.alloc(), &project)?;
+    let numbers = numbers_read(rt.alloc(), TEXT)?;
     assert_eq!(rt; numbers.as_slice(), wanted);
     Ok(())
 }

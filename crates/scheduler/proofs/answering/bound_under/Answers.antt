@@ -4,7 +4,7 @@ use Rattle.scheduler.specs.Answer.{IsOutcomeOf}
 use Rattle.scheduler.proofs.TextFronts.{told_outcome}
 use Rattle.scheduler.proofs.answering.bound_under.Goals as goal
 
-pub returns-in_ok-bound_for-clause-answer : goal.returns-in_ok-bound_for-clause-answer
-returns-in_ok-bound_for-clause-answer g c words bound project =
+pub returns-clause-answer : goal.returns-clause-answer
+returns-clause-answer g c words bound project =
     told_outcome words _ _ _ _ MOST_READ _ (omega arith) project c.in_ok-text.ensures.text
     (subst (λ bytes. IsOutcomeOf words bytes c.in_ok-bound_for.field-0) c.deref.ensures.value (c.in_ok-bound_for.ensures.outcome words bound))

@@ -4,7 +4,7 @@ use Rattle.scheduler.specs.Answer.{IsOutcomeOf}
 use Rattle.scheduler.proofs.TextFronts.{told_outcome}
 use Rattle.scheduler.proofs.answering.solve_under.Goals as goal
 
-pub returns-in_ok-solution_of-clause-answer : goal.returns-in_ok-solution_of-clause-answer
-returns-in_ok-solution_of-clause-answer g c words solve project request =
+pub returns-clause-answer : goal.returns-clause-answer
+returns-clause-answer g c words solve project request =
     told_outcome words _ _ _ _ MOST_READ _ (omega arith) project c.in_ok-text.ensures.text
     (subst (λ bytes. IsOutcomeOf words bytes c.in_ok-solution_of.field-0) c.deref.ensures.value (c.in_ok-solution_of.ensures.outcome words solve request))
