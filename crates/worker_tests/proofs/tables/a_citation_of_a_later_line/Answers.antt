@@ -3,7 +3,7 @@ use Rattle.search_log.specs.declared.row.Row.{Row}
 use Rattle.search_log.specs.Table.{IsWhole}
 use Rattle.search_log.specs.Examples.{twins_rows}
 use Rattle.search_log.proofs.TablesComputed.{worked_tables}
-use Rattle.search_log.proofs.tests.a_citation_of_a_later_line.Goals as goal
+use Rattle.worker_tests.proofs.tables.a_citation_of_a_later_line.Goals as goal
 
 then : {x y : Row} {xs ys : List Row} → x ≡ y → xs ≡ ys → x ∷ xs ≡ y ∷ ys
 then {x = x} {y = y} {xs = xs} {ys = ys} e f = ap (λ (z : Row). z ∷ xs) e ∙ ap (λ (zs : List Row). y ∷ zs) f

@@ -1,5 +1,5 @@
 use Rattle.std.proofs.Common.{◌≡◌, length}
-use Rattle.search_log.proofs.tests.numbers.Given as goal
+use Rattle.worker_tests.proofs.tables.numbers.Given as goal
 
 abbrev pub invariant-loop-i : goal.invariant-loop-i
 invariant-loop-i l = length l.numbers ≡ l.i
