@@ -4,6 +4,7 @@ pub mod Solve
 pub mod Feeding
 pub mod Judging
 pub mod Bounding
+pub mod Task
 pub mod Verifying
 pub mod Answer
 pub mod Laws

@@ -6,135 +6,89 @@ ghost use Rattle.scheduler.specs.declared.answer.Answer.TheVariants as answers;
 ghost use Rattle.scheduler.specs.declared.stop.Stop.TheVariants as stops;
 ghost use Rattle.project_net.specs.Canonical.{canonical};
 ghost use Rattle.project_gen.specs.Made.{made};
-ghost use Rattle.plan_words.specs.Words.{IsRequest, CanBeMade, IsSolve, IsShow, IsPlan, IsBound, IsMake, IsTrial, IsOnProject, project_name, tries_in};
+ghost use Rattle.plan_words.specs.Words.{CanBeMade, IsMake, IsTrial, IsOnProject, project_name};
+ghost use Rattle.psplib_layout.specs.Text.{Reads};
+ghost use Rattle.scheduler.specs.Task.{IsTaskOf, CanBeDone};
 ghost use Rattle.scheduler.specs.Answer.{IsOutcomeOf, IsTrialOf, IsAnswerTo, IsTellable};
 
 use crate::answer::{Answer, Outcome, Trial};
-use crate::bounding::bound_for;
+use crate::bounding::bound_text_of;
 use crate::judging::checked;
 use crate::planning::planned;
 use crate::reading::read_text;
 use crate::solving::{report_on, verdict_on};
 use crate::stop::Stop;
+use crate::task::Task;
 use crate::verifying::verified;
-use plan_words::{Command, Recipe, Request, parse_words};
+use plan_words::{Command, Recipe, parse_words};
 use project_gen::make;
-use project_net::print_project;
+use project_net::{Project, print_project};
 use psplib_layout::ReadError;
 use psplib_reader::read_project;
-use sched_base::{Gate, Shelf};
+use sched_base::{Gate, NoMemory, Shelf};
 use std::alloc::Global;
 use std::thread::Threads;
 
-/// What a project text comes to where it is to be solved.
-fn solution_of<R: Threads + Sync, G: Gate + Sync>(
+/// What the task comes to on a project.
+fn outcome_on<R: Threads + Sync, G: Gate + Sync>(
+    rt: &R,
+    alloc: Global,
+    gate: &G,
+    project: &Project,
+    task: Task,
+) -> Result<Outcome, NoMemory>
+    requires { CanBeDone task }
+    ensures outcome { IfOk result (λ outcome. (words : List (List ℕ)) (bytes : List ℕ) → IsTaskOf words task → Reads bytes project.now → IsOutcomeOf words bytes outcome) }
+    ensures text { IfOk result (λ outcome. IsTellable (answers.Read outcome)) }
+{
+    match task {
+        Task::Solve(request) => {
+            let report = report_on(rt, alloc, gate, project, request)?;
+            Ok(Outcome::Solved(report))
+        }
+        Task::Plan { tries } => Ok(Outcome::Planned(planned(alloc, project, tries)?)),
+        Task::Bound => Ok(Outcome::Bounded(bound_text_of(alloc, project)?)),
+        Task::Show => Ok(Outcome::Shown(print_project(alloc, project)?)),
+    }
+}
+
+/// What the task comes to on a project text.
+fn outcome_of<R: Threads + Sync, G: Gate + Sync>(
     rt: &R,
     alloc: Global,
     gate: &G,
     text: &[u8],
-    request: Request,
-) -> Result<Outcome, Stop>
-    requires some { 1 ≤ request.workers }
-    requires few { request.workers ≤ 32 }
-    requires nodes { request.nodes ≤ 100000 }
-    ensures outcome { IfOk result (λ outcome. (words : List (List ℕ)) → IsSolve words → IsRequest words request → IsOutcomeOf words text.now outcome) }
+    task: Task,
+) -> Result<Outcome, NoMemory>
+    requires { CanBeDone task }
+    ensures outcome { IfOk result (λ outcome. (words : List (List ℕ)) → IsTaskOf words task → IsOutcomeOf words text.now outcome) }
     ensures text { IfOk result (λ outcome. IsTellable (answers.Read outcome)) }
-    ensures memory { result ≡ Err stops.ReadFault → ⊥ }
 {
     match read_project(alloc, text) {
-        Ok(project) => Ok(Outcome::Solved(report_on(rt, alloc, gate, &project, request)?)),
+        Ok(project) => outcome_on(rt, alloc, gate, &project, task),
         Err(ReadError::Refused(refusal)) => Ok(Outcome::BadProject(refusal)),
-        Err(ReadError::NoMemory) => Err(Stop::NoMemory),
+        Err(ReadError::NoMemory) => Err(NoMemory),
     }
 }
 
-/// The answer where the project under a name is to be solved.
-fn solve_under<R: Threads + Sync, S: Shelf, G: Gate + Sync>(
+/// The answer where the task is set on the project under a name.
+fn answer_on<R: Threads + Sync, S: Shelf, G: Gate + Sync>(
     rt: &R,
     alloc: Global,
     shelf: &mut S,
     gate: &G,
     project: &str,
-    request: Request,
+    task: Task,
 ) -> Result<Answer, Stop>
-    requires some { 1 ≤ request.workers }
-    requires few { request.workers ≤ 32 }
-    requires nodes { request.nodes ≤ 100000 }
-    ensures answer { IfOk result (λ answer. (words : List (List ℕ)) → IsSolve words → project.now ≡ project_name words → IsRequest words request → IsAnswerTo words (S.texts shelf.old) answer) }
+    requires { CanBeDone task }
+    ensures answer { IfOk result (λ answer. (words : List (List ℕ)) → IsTaskOf words task → project.now ≡ project_name words → IsAnswerTo words (S.texts shelf.old) answer) }
     ensures text { IfOk result IsTellable }
     ensures fault { result ≡ Err stops.ReadFault → Rose (S.faults shelf.old) (S.faults shelf.new) }
     ensures later { S.faults shelf.old ≤ S.faults shelf.new }
     ensures texts { S.texts shelf.new ≡ S.texts shelf.old }
 {
     let text = read_text(alloc, shelf, project)?;
-    Ok(Answer::Read(solution_of(rt, alloc, gate, &text, request)?))
-}
-
-/// What a project text comes to where it is to be planned.
-fn plan_for(alloc: Global, text: &[u8], tries: u32) -> Result<Outcome, Stop>
-    ensures outcome { IfOk result (λ outcome. (words : List (List ℕ)) → IsPlan words → tries ≡ tries_in words → IsOutcomeOf words text.now outcome) }
-    ensures text { IfOk result (λ outcome. IsTellable (answers.Read outcome)) }
-    ensures memory { result ≡ Err stops.ReadFault → ⊥ }
-{
-    match read_project(alloc, text) {
-        Ok(project) => Ok(Outcome::Planned(planned(alloc, &project, tries)?)),
-        Err(ReadError::Refused(refusal)) => Ok(Outcome::BadProject(refusal)),
-        Err(ReadError::NoMemory) => Err(Stop::NoMemory),
-    }
-}
-
-/// The answer where the project under a name is to be planned.
-fn plan_under<S: Shelf>(
-    alloc: Global,
-    shelf: &mut S,
-    project: &str,
-    tries: u32,
-) -> Result<Answer, Stop>
-    ensures answer { IfOk result (λ answer. (words : List (List ℕ)) → IsPlan words → project.now ≡ project_name words → tries ≡ tries_in words → IsAnswerTo words (S.texts shelf.old) answer) }
-    ensures text { IfOk result IsTellable }
-    ensures fault { result ≡ Err stops.ReadFault → Rose (S.faults shelf.old) (S.faults shelf.new) }
-    ensures later { S.faults shelf.old ≤ S.faults shelf.new }
-    ensures texts { S.texts shelf.new ≡ S.texts shelf.old }
-{
-    let text = read_text(alloc, shelf, project)?;
-    Ok(Answer::Read(plan_for(alloc, &text, tries)?))
-}
-
-/// The answer where the window bound of the project under a name is asked for.
-fn bound_under<S: Shelf>(alloc: Global, shelf: &mut S, project: &str) -> Result<Answer, Stop>
-    ensures answer { IfOk result (λ answer. (words : List (List ℕ)) → IsBound words → project.now ≡ project_name words → IsAnswerTo words (S.texts shelf.old) answer) }
-    ensures text { IfOk result IsTellable }
-    ensures fault { result ≡ Err stops.ReadFault → Rose (S.faults shelf.old) (S.faults shelf.new) }
-    ensures later { S.faults shelf.old ≤ S.faults shelf.new }
-    ensures texts { S.texts shelf.new ≡ S.texts shelf.old }
-{
-    let text = read_text(alloc, shelf, project)?;
-    Ok(Answer::Read(bound_for(alloc, &text)?))
-}
-
-/// What a project text comes to where it is to be shown.
-fn show_of(alloc: Global, text: &[u8]) -> Result<Outcome, Stop>
-    ensures outcome { IfOk result (λ outcome. (words : List (List ℕ)) → IsShow words → IsOutcomeOf words text.now outcome) }
-    ensures text { IfOk result (λ outcome. IsTellable (answers.Read outcome)) }
-    ensures memory { result ≡ Err stops.ReadFault → ⊥ }
-{
-    match read_project(alloc, text) {
-        Ok(project) => Ok(Outcome::Shown(print_project(alloc, &project)?)),
-        Err(ReadError::Refused(refusal)) => Ok(Outcome::BadProject(refusal)),
-        Err(ReadError::NoMemory) => Err(Stop::NoMemory),
-    }
-}
-
-/// The answer where the project under a name is to be shown.
-fn show_under<S: Shelf>(alloc: Global, shelf: &mut S, project: &str) -> Result<Answer, Stop>
-    ensures answer { IfOk result (λ answer. (words : List (List ℕ)) → IsShow words → project.now ≡ project_name words → IsAnswerTo words (S.texts shelf.old) answer) }
-    ensures text { IfOk result IsTellable }
-    ensures fault { result ≡ Err stops.ReadFault → Rose (S.faults shelf.old) (S.faults shelf.new) }
-    ensures later { S.faults shelf.old ≤ S.faults shelf.new }
-    ensures texts { S.texts shelf.new ≡ S.texts shelf.old }
-{
-    let text = read_text(alloc, shelf, project)?;
-    Ok(Answer::Read(show_of(alloc, &text)?))
+    Ok(Answer::Read(outcome_of(rt, alloc, gate, &text, task)?))
 }
 
 /// The canonical text of a made project.
@@ -191,13 +145,17 @@ pub fn answer_to<R: Threads + Sync, S: Shelf, G: Gate + Sync>(
 {
     match parse_words(words) {
         Ok(Command::Solve { project, request }) => {
-            solve_under(rt, alloc, shelf, gate, project, request)
+            answer_on(rt, alloc, shelf, gate, project, Task::Solve(request))
         }
         Ok(Command::Check { project, report }) => checked(alloc, shelf, project, report),
-        Ok(Command::Plan { project, tries }) => plan_under(alloc, shelf, project, tries),
-        Ok(Command::Bound { project }) => bound_under(alloc, shelf, project),
+        Ok(Command::Plan { project, tries }) => {
+            answer_on(rt, alloc, shelf, gate, project, Task::Plan { tries })
+        }
+        Ok(Command::Bound { project }) => {
+            answer_on(rt, alloc, shelf, gate, project, Task::Bound)
+        }
         Ok(Command::Verify { project, bound }) => verified(alloc, shelf, project, bound),
-        Ok(Command::Show { project }) => show_under(alloc, shelf, project),
+        Ok(Command::Show { project }) => { answer_on(rt, alloc, shelf, gate, project, Task::Show) },
         Ok(
             Command::Trial {
                 recipe,

@@ -14,6 +14,7 @@ mod running;
 mod solving;
 mod status;
 mod stop;
+mod task;
 mod tell;
 mod verifying;
 
