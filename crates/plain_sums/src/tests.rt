@@ -308,7 +308,7 @@ fn enter(
 
 /// Enters all fronts.
 fn same_found(rt: &impl Abort, alloc: Global, subject: &Subject) -> Result<(), NoMemory> {
-    let project = &subject.project;
+    let project: &Project = &subject.project;
     let fronts = subject.fronts.as_slice();
     let mut index = Index::new(alloc, project);
     for place in 0..fronts.len() {
