@@ -2,9 +2,8 @@
 use Rattle.std.proofs.Common.{◌≡◌, ℕ, ◌+◌, ◌*◌, ◌<◌, ◌≤◌, inl, inr, arith, refl, subst, true, false, if◌then◌else◌, Option, Some, None, List, [], ◌∷◌, ◌++◌, length, length-append}
 use Rattle.std.specs.Prelude.{Ok, Result}
 use Rattle.std.proofs.lemmas.Bool.{cases_Bool, cases_lt}
-use Rattle.sched_base.specs.Outside.{Begins}
 use Rattle.rcpsp_model.specs.declared.parts.Verdict.{Verdict}
-use Rattle.rcpsp_model.specs.Project.{Project, IsWithinLimits}
+use Rattle.rcpsp_model.specs.Project.{Project, IsProject, IsWithinLimits}
 use Rattle.proof_log.specs.declared.line_reader.TheConstants.{LONGEST_LINE}
 use Rattle.proof_log.specs.Lines.{ReaderState, is_line_end}
 use Rattle.log_checker.specs.declared.course.Course.{Course}
@@ -17,10 +16,9 @@ use Rattle.log_checker.proofs.FedBytes.{stands-refused}
 use Rattle.log_checker.proofs.RoomForNumbers.{few-lines}
 use Rattle.scheduler.specs.declared.answer.Judgement.{Judgement}
 use Rattle.scheduler.specs.declared.answer.Judgement.TheVariants as judgements
-use Rattle.scheduler.specs.declared.judging.TheConstants.{MOST_REPORT}
-use Rattle.scheduler.specs.Feeding.{HasAll}
+use Rattle.scheduler.specs.declared.feeding.TheConstants.{MOST_JUDGED}
+use Rattle.scheduler.specs.Feeding.{HasText}
 use Rattle.scheduler.specs.Judging.{result_of, IsJudgementOf}
-use Rattle.scheduler.proofs.FedTexts.{text_told}
 
 -- Bytes that break no rule are few.
 
@@ -58,7 +56,7 @@ quiet-short p rest quiet = elim (cases_lt LONGEST_LINE (length rest)) [
   | inr short ↦ short
 ]
 
-few-bytes : (P : Project) (reader : ReaderState) (number : ℕ) (course : Course) (bytes : List ℕ) → IsWithinLimits P → Runs P reader number course bytes → length bytes < MOST_REPORT
+few-bytes : (P : Project) (reader : ReaderState) (number : ℕ) (course : Course) (bytes : List ℕ) → IsWithinLimits P → Runs P reader number course bytes → length bytes < 3328008905
 few-bytes P reader number course bytes limits runs =
     let size = sized [] bytes (leads-short P start runs.progress (whole_lines bytes) runs.leads) in
     let lines = few-lines P runs.progress (whole_lines bytes) limits runs.leads in
@@ -68,11 +66,11 @@ few-bytes P reader number course bytes limits runs =
 -- Read after read.
 
 -- after so many bytes the checker has refused them
-pub most-stays : (c : CheckerState) (bytes more : List ℕ) → IsWithinLimits c.project → MOST_REPORT ≤ length bytes → StandsFor c bytes → StandsFor c (bytes ++ more)
-most-stays c bytes more limits most stands = by c.refused refl
+pub report_stays : (c : CheckerState) (bytes more : List ℕ) → IsProject c.project → MOST_JUDGED ≤ length bytes → StandsFor c bytes → StandsFor c (bytes ++ more)
+report_stays c bytes more is most stands = by c.refused refl
   where
     by : (r : Option Refused) → c.refused ≡ r → StandsFor c (bytes ++ more)
-    by None e = let few = few-bytes c.project c.reader c.number c.course bytes limits (subst (StandsAs c bytes) e stands) in absurd (omega arith)
+    by None e = let few = few-bytes c.project c.reader c.number c.course bytes is.limits (subst (StandsAs c bytes) e stands) in absurd (omega arith)
     by (Some refused) e = stands-refused c bytes more refused e stands
 
 -- At the end.
@@ -81,10 +79,10 @@ by_judgement : (P : Project) (bytes : List ℕ) (judgement : Judgement) → IsFi
 by_judgement P bytes (judgements.Accepted verdict) is = is
 by_judgement P bytes (judgements.Refused line reason) is = is
 
-pub judged_all : (P : Project) (texts : Option (List (List ℕ × List ℕ))) (name left : List ℕ) (c : CheckerState) (out : Result Verdict Refused) (judgement : Judgement) → c.project ≡ P → HasAll texts (StandsFor c) left → Begins texts name left →
+pub judged_all : (P : Project) (texts : Option (List (List ℕ × List ℕ))) (name : List ℕ) (c : CheckerState) (out : Result Verdict Refused) (judgement : Judgement) → c.project ≡ P → HasText texts (StandsFor c) name →
     ((bytes : List ℕ) → StandsFor c bytes → IsFinished c.project bytes out) → out ≡ result_of judgement → IsJudgementOf P texts name judgement
-judged_all P texts name left c out judgement same all begins finished is = record {
-  report = all.bytes;
-  is_report = text_told texts (StandsFor c) name left all begins;
-  judged = by_judgement P all.bytes judgement (subst (λ (Q : Project). IsFinished Q all.bytes (result_of judgement)) same (subst (IsFinished c.project all.bytes) is (finished all.bytes all.stands)));
+judged_all P texts name c out judgement same has finished is = record {
+  report = has.bytes;
+  is_report = has.is_text;
+  judged = by_judgement P has.bytes judgement (subst (λ (Q : Project). IsFinished Q has.bytes (result_of judgement)) same (subst (IsFinished c.project has.bytes) is (finished has.bytes has.stands)));
 }

@@ -1,7 +1,7 @@
 -- What a judge stands for while a text is read: all of it in the end.
 use Rattle.std.proofs.Common.{◌≡◌, ℕ, ◌+◌, ◌≤◌, arith, refl, sym, ap, ◌∙◌, Option, Some, None, IsSome, List, [], ◌++◌, length, take, length-append, length-take, append_assoc}
 use Rattle.sched_base.specs.Outside.{Takes, Begins}
-use Rattle.scheduler.specs.Feeding.{IsTextUnder, HasTaken, HasAll, IsTaken}
+use Rattle.scheduler.specs.Feeding.{IsTextUnder, HasTaken, HasAll, HasText, IsTaken}
 
 -- One read.
 
@@ -55,6 +55,9 @@ takes_most texts Stands whole left count has stays = record { bytes = has.bytes 
 
 -- At the end.
 
-pub text_told : (texts : Option (List (List ℕ × List ℕ))) (Stands : List ℕ → Type 0) (name left : List ℕ) (all : HasAll texts Stands left) → Begins texts name left → IsTextUnder texts name all.bytes
+text_told : (texts : Option (List (List ℕ × List ℕ))) (Stands : List ℕ → Type 0) (name left : List ℕ) (all : HasAll texts Stands left) → Begins texts name left → IsTextUnder texts name all.bytes
 text_told None Stands name left all begins = tt
 text_told (Some ts) Stands name left all begins = all.all refl ∙ begins
+
+pub told : (texts : Option (List (List ℕ × List ℕ))) (Stands : List ℕ → Type 0) (name left : List ℕ) → HasAll texts Stands left → Begins texts name left → HasText texts Stands name
+told texts Stands name left all begins = record { bytes = all.bytes; stands = all.stands; is_text = text_told texts Stands name left all begins }

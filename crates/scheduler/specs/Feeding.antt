@@ -20,6 +20,12 @@ pub record HasAll (texts : Option (List (List ℕ × List ℕ))) (Stands : List 
   pub stands : Stands bytes
   pub all : IsSome texts → bytes ≡ whole
 
+-- the judge stands for the text under the name, where the shelf tells its texts, and for some text in any case
+pub record HasText (texts : Option (List (List ℕ × List ℕ))) (Stands : List ℕ → Type 0) (name : List ℕ) : Type 0 where
+  pub bytes : List ℕ
+  pub stands : Stands bytes
+  pub is_text : IsTextUnder texts name bytes
+
 -- what a read comes to, by how many bytes it gave: with none, all is taken
 pub record IsTaken (texts : Option (List (List ℕ × List ℕ))) (Stood Stands : List ℕ → Type 0) (before left : List ℕ) (n : ℕ) : Type 0 where
   pub some : 1 ≤ n → (bytes : List ℕ) → Stood bytes → HasTaken texts Stands (bytes ++ before) left (length bytes + n)

@@ -5,6 +5,7 @@
 mod answer;
 mod answering;
 mod bounding;
+mod feeding;
 mod judging;
 mod laws;
 mod plan_text;
