@@ -8,6 +8,7 @@ ghost use Rattle.project_net.specs.Canonical.{canonical};
 ghost use Rattle.project_gen.specs.Made.{made};
 ghost use Rattle.plan_words.specs.Words.{CanBeMade, IsMake, IsTrial, IsOnProject, project_name};
 ghost use Rattle.psplib_layout.specs.Text.{Reads};
+ghost use Rattle.scheduler.specs.Solve.{IsSearchedTo};
 ghost use Rattle.scheduler.specs.Task.{IsTaskOf, CanBeDone};
 ghost use Rattle.scheduler.specs.Answer.{IsOutcomeOf, IsTrialOf, IsAnswerTo, IsTellable};
 
@@ -25,6 +26,7 @@ use project_gen::make;
 use project_net::{Project, print_project};
 use psplib_layout::ReadError;
 use psplib_reader::read_project;
+use rcpsp_model::Verdict;
 use sched_base::{Gate, NoMemory, Shelf};
 use std::alloc::Global;
 use std::thread::Threads;
@@ -92,13 +94,31 @@ fn answer_on<R: Threads + Sync, S: Shelf, G: Gate + Sync>(
 }
 
 /// The canonical text of a made project.
-fn made_text(alloc: Global, recipe: Recipe) -> Result<Vec<u8>, Stop>
+fn made_text(alloc: Global, recipe: Recipe) -> Result<Vec<u8>, NoMemory>
     requires { CanBeMade recipe }
-    ensures text { IfOk result (λ text. text.items ≡ canonical (made recipe.seed recipe.jobs recipe.modes)) }
-    ensures memory { result ≡ Err stops.ReadFault → ⊥ }
+    ensures { IfOk result (λ text. text.items ≡ canonical (made recipe.seed recipe.jobs recipe.modes)) }
 {
     let project = make(alloc, u64::from(recipe.seed), recipe.jobs, recipe.modes)?;
-    Ok(print_project(alloc, &project)?)
+    print_project(alloc, &project)
+}
+
+/// The verdict of the report on a made project.
+fn made_verdict<R: Threads + Sync, G: Gate + Sync>(
+    rt: &R,
+    alloc: Global,
+    gate: &G,
+    recipe: Recipe,
+    workers: u32,
+    nodes: u32,
+) -> Result<Verdict, NoMemory>
+    requires recipe { CanBeMade recipe }
+    requires some { 1 ≤ workers }
+    requires few { workers ≤ 32 }
+    requires nodes { nodes ≤ 100000 }
+    ensures { IfOk result (IsSearchedTo (made recipe.seed recipe.jobs recipe.modes) workers nodes) }
+{
+    let project = make(alloc, u64::from(recipe.seed), recipe.jobs, recipe.modes)?;
+    verdict_on(rt, alloc, gate, &project, workers, nodes)
 }
 
 /// What a made project comes to where it is solved.
@@ -109,17 +129,15 @@ fn trial_of<R: Threads + Sync, G: Gate + Sync>(
     recipe: Recipe,
     workers: u32,
     nodes: u32,
-) -> Result<Trial, Stop>
+) -> Result<Trial, NoMemory>
     requires recipe { CanBeMade recipe }
     requires some { 1 ≤ workers }
     requires few { workers ≤ 32 }
     requires nodes { nodes ≤ 100000 }
-    ensures trial { IfOk result (IsTrialOf recipe.seed recipe.jobs recipe.modes workers nodes) }
-    ensures memory { result ≡ Err stops.ReadFault → ⊥ }
+    ensures { IfOk result (IsTrialOf recipe.seed recipe.jobs recipe.modes workers nodes) }
 {
-    let Recipe { seed, jobs, modes } = recipe;
-    let project = make(alloc, u64::from(seed), jobs, modes)?;
-    let verdict = verdict_on(rt, alloc, gate, &project, workers, nodes)?;
+    let verdict = made_verdict(rt, alloc, gate, recipe, workers, nodes)?;
+    let Recipe { jobs, modes, .. } = recipe;
     Ok(Trial {
         jobs,
         modes,
