@@ -185,7 +185,7 @@ fn a_refused_report_is_not_read_on(rt: HostRuntime) {
     for (options, status, told) in FAILING {
         let report = report_of(&rt, &project, options);
         let outside = Outside {
-            failing_read: 6,
+            failing_reads: &[6],
             ..Outside::of(&project, &report)
         };
         check(&rt, "check p r", &outside, (*status, told));

@@ -56,8 +56,9 @@ fn each_call_of_the_shelf_may_fail(rt: HostRuntime) {
     let report = report_of(&rt, &project, "");
     let mut unharmed = 0u64;
     for call in 1..MANY_CALLS {
+        let failing = [call];
         let outside = Outside {
-            failing_read: call,
+            failing_reads: &failing,
             step: 64,
             ..Outside::of(&project, &report)
         };
@@ -78,8 +79,9 @@ fn each_call_of_the_sink_may_fail(rt: HostRuntime) {
     let report = report_of(&rt, &project, "");
     let mut unharmed = 0u64;
     for call in 1..MANY_CALLS {
+        let failing = [call];
         let outside = Outside {
-            failing_write: call,
+            failing_writes: &failing,
             step: 3,
             ..Outside::of(&project, b"")
         };

@@ -18,22 +18,22 @@ pub struct Outside<'a> {
     pub project: &'a [u8],
     /// The text under the name `r`: a report, or a bound.
     pub judged: &'a [u8],
-    /// The call of the shelf that fails, from 1, or 0 where none does.
-    pub failing_read: u64,
-    /// The call of the sink that fails, from 1, or 0 where none does.
-    pub failing_write: u64,
+    /// The calls of the shelf that fail, from 1.
+    pub failing_reads: &'a [u64],
+    /// The calls of the sink that fail, from 1.
+    pub failing_writes: &'a [u64],
     /// How many bytes a read gives at most, and a write takes.
     pub step: usize,
 }
 
-impl Outside<'_> {
+impl<'a> Outside<'a> {
     /// A project and what is judged, where no call fails.
-    pub fn of<'a>(project: &'a [u8], judged: &'a [u8]) -> Outside<'a> {
+    pub fn of(project: &'a [u8], judged: &'a [u8]) -> Outside<'a> {
         Outside {
             project,
             judged,
-            failing_read: 0,
-            failing_write: 0,
+            failing_reads: &[],
+            failing_writes: &[],
             step: 65_536,
         }
     }
@@ -50,7 +50,7 @@ fn shelf_of(alloc: Global, outside: &Outside<'_>) -> Result<MemShelf, AllocError
     let mut texts = Vec::new(alloc);
     texts.push(named(alloc, "p", outside.project)?)?;
     texts.push(named(alloc, "r", outside.judged)?)?;
-    let failing = vec![in alloc; outside.failing_read]?;
+    let failing = outside.failing_reads.to_vec(alloc)?;
     Ok(MemShelf::new(texts, failing, outside.step.max(1)))
 }
 
@@ -72,7 +72,10 @@ pub fn told_past<R: Threads + Abort + Sync + AllocGlobal, G: Gate + Sync>(
 ) -> (Status, Vec<u8>) {
     let words = words_of(rt.alloc(), words).expect(rt, "memory");
     let mut shelf = shelf_of(rt.alloc(), outside).expect(rt, "memory");
-    let failing = vec![in rt.alloc(); outside.failing_write].expect(rt, "memory");
+    let failing = outside
+        .failing_writes
+        .to_vec(rt.alloc())
+        .expect(rt, "memory");
     let step = outside.step.max(1);
     let mut out = MemSink::new(rt.alloc(), ROOM, failing, step).expect(rt, "memory");
     let status = run(rt, rt.alloc(), &words, &mut shelf, &mut out, gate);
@@ -130,7 +133,7 @@ pub fn report_of<R: Threads + Abort + Sync + AllocGlobal>(
     report
 }
 
-/// Whether the program, on these words, judges what is under the name `r` as one that stands.
+/// Whether the program, on these words, accepts what is under the name `r`.
 pub fn accepts<R: Threads + Abort + Sync + AllocGlobal>(
     rt: &R,
     words: &str,

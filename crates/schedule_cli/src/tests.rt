@@ -6,7 +6,7 @@ use std::alloc::{AllocError, Global};
 use worked_projects::TWO_IN_TURN;
 
 /// A line for each of 128 jobs: what stands before its number, the number, and what stands behind it.
-pub fn append_jobs(
+fn append_jobs(
     alloc: Global,
     text: &mut String,
     before: &str,
@@ -78,25 +78,37 @@ fn words_that_are_no_command_are_told(rt: HostRuntime) {
     }
 }
 
-/// Words over a shelf and a sink of each of which one call fails, from 1, or none; and what comes of it.
-type Faulty = (&'static str, (u64, u64), Status, &'static str);
+/// Words, the calls of the shelf and of the sink that fail, and what comes of it.
+type Faulty = (
+    &'static str,
+    &'static [u64],
+    &'static [u64],
+    Status,
+    &'static str,
+);
 
 const FAULTY: &[Faulty] = &[
-    ("solve p", (3, 0), Status::ReadFault, ""),
-    ("solve q", (0, 0), Status::ReadFault, ""),
-    ("solve p", (0, 2), Status::WriteFault, "psplib-report 1\n"),
-    ("show p", (3, 0), Status::ReadFault, ""),
-    ("show p", (0, 1), Status::WriteFault, ""),
-    ("make 42 3", (1, 1), Status::WriteFault, ""),
+    ("solve p", &[3], &[], Status::ReadFault, ""),
+    ("solve q", &[], &[], Status::ReadFault, ""),
+    (
+        "solve p",
+        &[],
+        &[2],
+        Status::WriteFault,
+        "psplib-report 1\n",
+    ),
+    ("show p", &[3], &[], Status::ReadFault, ""),
+    ("show p", &[], &[1], Status::WriteFault, ""),
+    ("make 42 3", &[1], &[1], Status::WriteFault, ""),
 ];
 
 #[test]
 fn faults_are_told_by_the_status(rt: HostRuntime) {
     let text = text_of(&rt, &TWO_IN_TURN);
-    for (words, failing, status, written) in FAULTY {
+    for (words, reads, writes, status, written) in FAULTY {
         let outside = Outside {
-            failing_read: failing.0,
-            failing_write: failing.1,
+            failing_reads: reads,
+            failing_writes: writes,
             ..Outside::of(&text, b"")
         };
         check(&rt, words, &outside, (*status, written));
