@@ -1,5 +1,5 @@
 -- Lines that a text may begin with.
-use Rattle.std.proofs.Common.{◌≡◌, ℕ, zero, suc, ◌+◌, ◌-◌, ◌<◌, ◌≤◌, ◌∙◌, inl, inr, arith, refl, sym, ap, subst, Bool, true, false, List, [], ◌∷◌, ◌++◌, map, append_assoc}
+use Rattle.std.proofs.Common.{◌≡◌, ℕ, zero, suc, ◌+◌, ◌-◌, ◌≤◌, inl, inr, arith, refl, sym, subst, Bool, true, false, List, [], ◌∷◌, ◌++◌, map, append_assoc}
 use Rattle.std.specs.Prelude.{MatchBool}
 use Rattle.std.specs.List.{AllByRecursion, list_any}
 use Rattle.std.proofs.lemmas.Bool.{cases_Bool}
@@ -20,7 +20,7 @@ use Rattle.bound_checker.specs.declared.stage.Stage.TheVariants as stages
 use Rattle.bound_checker.specs.Text.{bound_lines}
 use Rattle.bound_checker.specs.Beginning.{IsEnd, AreSteps, FollowsBound, FollowsTitle, IsBeginning}
 use Rattle.bound_checker.specs.Judged.{is_end}
-use Rattle.bound_checker.specs.Stages.{HasSteps, HasShown, HasEnded, IsAt}
+use Rattle.bound_checker.specs.Stages.{HasSteps, HasShown, IsAt}
 
 -- Behind a step.
 

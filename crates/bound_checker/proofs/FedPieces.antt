@@ -1,5 +1,5 @@
 -- What a reader makes of a piece, as lines of the text.
-use Rattle.std.proofs.Common.{◌≡◌, ℕ, zero, suc, ◌+◌, ◌-◌, ◌*◌, ◌<◌, ◌≤◌, min, inl, inr, arith, refl, sym, ap, subst, ◌∙◌, List, [], ◌∷◌, ◌++◌, length, length-append, length-take, length-drop, take, drop, append_assoc, true, false, Option, Some, None}
+use Rattle.std.proofs.Common.{◌≡◌, ℕ, zero, suc, ◌+◌, ◌-◌, ◌<◌, ◌≤◌, min, inl, inr, arith, refl, sym, ap, subst, ◌∙◌, List, [], ◌∷◌, ◌++◌, length, length-append, length-take, length-drop, take, drop, append_assoc, true, false, None}
 use Rattle.std.specs.Prelude.{nat_lt}
 use Rattle.std.proofs.lemmas.Bool.{cases_Bool, cases_lt}
 use Rattle.std.proofs.lemmas.Bool.Decides.{nat_tests}
@@ -15,8 +15,7 @@ use Rattle.bound_checker.specs.declared.course.Course.{Course}
 use Rattle.bound_checker.specs.declared.stage.Stage.{Stage}
 use Rattle.bound_checker.specs.declared.stage.Stage.TheVariants as stages
 use Rattle.bound_checker.specs.Text.{text_of}
-use Rattle.bound_checker.specs.Beginning.{IsBeginning}
-use Rattle.bound_checker.specs.Judged.{IsFault, IsShown, whole, too_long, behind_end, IsBroken}
+use Rattle.bound_checker.specs.Judged.{whole, too_long, behind_end, IsBroken}
 use Rattle.bound_checker.specs.Stages.{IsAt, is_ended, IsNextText}
 use Rattle.bound_checker.specs.Checker.{held_after, held, GoesOn, HasNoEnd, Runs, StandsAs}
 use Rattle.bound_checker.specs.Laws.{RefusedLaw}

@@ -1,5 +1,5 @@
 -- Lines that may stand there are few, since each step leaves less room.
-use Rattle.std.proofs.Common.{◌≡◌, ℕ, zero, suc, ◌+◌, ◌-◌, ◌*◌, ◌<◌, ◌≤◌, ◌∙◌, inl, inr, arith, sym, ap, subst, List, [], ◌∷◌, ◌++◌, length, length-append, true, false}
+use Rattle.std.proofs.Common.{◌≡◌, ℕ, zero, suc, ◌+◌, ◌-◌, ◌*◌, ◌≤◌, ◌∙◌, inl, inr, arith, ap, subst, List, [], ◌∷◌, length, length-append}
 use Rattle.std.proofs.Math.Nat.{mul-le-mul_left}
 use Rattle.std.proofs.lemmas.Bool.{cases_Bool}
 use Rattle.std.proofs.lemmas.List.Folds.{sum_by-replicate}
@@ -18,7 +18,7 @@ use Rattle.bound_checker.specs.declared.checker.TheConstants.{MOST_TEXT}
 use Rattle.bound_checker.specs.declared.course.Course.{Course}
 use Rattle.bound_checker.specs.Text.{text_of}
 use Rattle.bound_checker.specs.Beginning.{IsEnd, AreSteps, FollowsBound, FollowsTitle, IsBeginning}
-use Rattle.bound_checker.specs.Checker.{BoundCheckerState, held, Runs, StandsAs, StandsFor}
+use Rattle.bound_checker.specs.Checker.{held, Runs, StandsAs}
 use Rattle.bound_checker.specs.Laws.{FewBytesLaw}
 use Rattle.bound_checker.proofs.Beginnings.{behind-last, behind-other, at-begins}
 

@@ -1,13 +1,11 @@
 -- What comes of a line, at each stage.
-use Rattle.std.proofs.Common.{◌≡◌, ℕ, zero, suc, ◌+◌, ◌-◌, ◌<◌, ◌≤◌, ◌∙◌, inl, inr, arith, refl, sym, ap, subst, true, false, List, [], ◌∷◌, ◌++◌, map, append_assoc, Option, Some, None}
+use Rattle.std.proofs.Common.{◌≡◌, ℕ, suc, ◌+◌, ◌-◌, ◌<◌, ◌≤◌, ◌∙◌, arith, refl, sym, ap, subst, true, false, List, [], ◌∷◌, ◌++◌, map, append_assoc, Option, Some, None}
 use Rattle.rcpsp_model.specs.Project.{Project, IsProject}
-use Rattle.window_refuter.specs.declared.window.Window.{Window}
 use Rattle.window_refuter.specs.declared.step.BoundStep.{BoundStep}
 use Rattle.window_refuter.specs.declared.line.BoundLine.{BoundLine}
 use Rattle.window_refuter.specs.declared.line.BoundLine.TheVariants.{Title, Bound, Step, End}
 use Rattle.window_refuter.specs.Windows.{TimeWindows, first_windows}
 use Rattle.window_refuter.specs.Steps.{IsAllowed, is_contradiction, after_step, Refutes}
-use Rattle.window_refuter.specs.Refuted.{ShowsBound}
 use Rattle.window_refuter.proofs.Narrowed.{leads-push, leads-refutes}
 use Rattle.window_refuter.specs.Text.{line_text, IsLine}
 use Rattle.bound_checker.specs.declared.stage.Stage.{Stage}

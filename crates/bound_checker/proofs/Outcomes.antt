@@ -1,5 +1,5 @@
 -- A text has one outcome.
-use Rattle.std.proofs.Common.{◌≡◌, ℕ, ◌+◌, ◌<◌, ◌≤◌, ◌∙◌, arith, refl, sym, ap, subst, Bool, true, false, List, [], ◌∷◌, ◌++◌, length, length-append, append_assoc, map}
+use Rattle.std.proofs.Common.{◌≡◌, ℕ, ◌+◌, ◌∙◌, arith, refl, sym, ap, subst, Bool, true, false, List, [], ◌∷◌, ◌++◌, length, length-append, append_assoc, map}
 use Rattle.std.specs.Prelude.{Ok, Err, Result}
 use Rattle.std.specs.List.{list_any}
 use Rattle.std.proofs.lemmas.List.{append-nil}
@@ -20,7 +20,7 @@ use Rattle.bound_checker.specs.Beginning.{IsBeginning}
 use Rattle.bound_checker.specs.Judged.{AcceptsBound, NoneFollows, IsFault, IsBoundRefusal, is_end, IsShown, whole, too_long, behind_end, IsBroken}
 use Rattle.bound_checker.specs.Stages.{IsAt, is_ended}
 use Rattle.bound_checker.specs.Checker.{held, Runs, IsFed, IsJudgement}
-use Rattle.bound_checker.specs.Laws.{StaysLaw, BrokenLaw, IsOneOutcome, OneOutcomeLaw, SoundLaw}
+use Rattle.bound_checker.specs.Laws.{StaysLaw, BrokenLaw, OneOutcomeLaw, SoundLaw}
 use Rattle.bound_checker.proofs.LineEnds.{no_cut, cut_again, cut_long, none_left}
 use Rattle.bound_checker.proofs.LineTexts.{text_short, text_no_end, GoesOn, Compared, alike, first_longer, second_longer, compare}
 use Rattle.bound_checker.proofs.Beginnings.{are-lines, is-line, front-line, none-behind, bound-begins, at-begins}

@@ -1,7 +1,7 @@
 -- The text of a bound, written line by line.
-use Rattle.std.proofs.Common.{◌≡◌, ℕ, suc, ◌+◌, ◌<◌, ◌≤◌, ◌∙◌, arith, refl, sym, ap, List, [], ◌∷◌, ◌++◌, length, map, take, get_or, append_assoc}
+use Rattle.std.proofs.Common.{◌≡◌, ℕ, suc, ◌+◌, ◌<◌, ◌≤◌, ◌∙◌, arith, refl, sym, ap, List, [], ◌∷◌, ◌++◌, length, map, take, get_or}
 use Rattle.std.proofs.Math.Seq.{take-suc}
-use Rattle.std.proofs.lemmas.List.{take_all, append-nil, map-append}
+use Rattle.std.proofs.lemmas.List.{take_all, map-append}
 use Rattle.window_refuter.specs.declared.step.BoundStep.{BoundStep}
 use Rattle.window_refuter.specs.declared.line.BoundLine.{BoundLine}
 use Rattle.window_refuter.specs.declared.line.BoundLine.TheVariants.{Title, Bound, Step, End}

@@ -1,9 +1,9 @@
 -- A text whose project has a cycle is refused for it.
-use Rattle.std.proofs.Common.{◌≡◌, ℕ, ◌≤◌, inl, List, [], ◌∷◌, ◌++◌, length, Result, Ok, Err, refl, sym, ap, subst, ◌∙◌, arith}
+use Rattle.std.proofs.Common.{◌≡◌, ℕ, ◌≤◌, inl, List, length, Result, Ok, Err, refl, sym, ap, subst, ◌∙◌, arith}
 use Rattle.std.specs.Prelude.{IfOk}
 use Rattle.psplib_lex.specs.declared.lexer.TheConstants.{MOST_BYTES}
 use Rattle.psplib_lex.specs.Line.{Line, lines_of}
-use Rattle.rcpsp_model.specs.Project.{Project, IsAcyclic, IsJob, IsWithinLimits}
+use Rattle.rcpsp_model.specs.Project.{Project, IsAcyclic}
 use Rattle.rcpsp_model.specs.Chain.{IsLeast, IsOnCycle}
 use Rattle.psplib_layout.specs.declared.content.Content.{Content}
 use Rattle.psplib_layout.specs.declared.fault.Fault.TheVariants.{Cycle}

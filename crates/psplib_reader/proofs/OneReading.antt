@@ -1,5 +1,5 @@
 -- A text is one project or has one first refusal, and never both.
-use Rattle.std.proofs.Common.{◌≡◌, ℕ, ◌<◌, ◌⊎◌, inl, inr, arith, refl, sym, ap, subst, ◌∙◌, List, [], ◌∷◌, ◌++◌, Result, Ok, Err}
+use Rattle.std.proofs.Common.{◌≡◌, ℕ, ◌⊎◌, inl, inr, arith, refl, sym, ap, subst, ◌∙◌, List, Result, Ok, Err}
 use Rattle.std.specs.Prelude.{IfOk}
 use Rattle.rcpsp_model.specs.Project.{Project, IsAcyclic}
 use Rattle.rcpsp_model.specs.Chain.{IsLeast, IsOnCycle}

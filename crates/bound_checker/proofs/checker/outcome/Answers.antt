@@ -1,4 +1,4 @@
-use Rattle.std.proofs.Common.{◌≡◌, refl, Bool, true, false}
+use Rattle.std.proofs.Common.{◌≡◌, refl, false}
 use Rattle.bound_checker.specs.declared.stage.Stage.{Stage}
 use Rattle.bound_checker.specs.declared.stage.Stage.TheVariants as stages
 use Rattle.bound_checker.specs.Stages.{is_ended}

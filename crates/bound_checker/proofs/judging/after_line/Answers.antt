@@ -1,4 +1,4 @@
-use Rattle.std.proofs.Common.{ap, sym, subst}
+use Rattle.std.proofs.Common.{subst}
 use Rattle.bound_checker.specs.declared.stage.Stage.{Stage}
 use Rattle.bound_checker.specs.Stages.{IsAt}
 use Rattle.bound_checker.proofs.NextLines.{begin-step, begin-none}

@@ -1,4 +1,4 @@
-use Rattle.std.proofs.Common.{◌+◌, ◌∙◌, ap, sym, arith}
+use Rattle.std.proofs.Common.{◌+◌, ◌∙◌, ap, arith}
 use Rattle.window_refuter.specs.declared.line.BoundLine.TheVariants.{Step}
 use Rattle.window_refuter.specs.Windows.{TimeWindows}
 use Rattle.bound_checker.proofs.NextLines.{begin-step, step-of, step-next, shown-next}

@@ -1,4 +1,3 @@
-use Rattle.std.proofs.Common.{sym, ◌∙◌}
 use Rattle.bound_checker.proofs.NextLines.{text-next, none-next}
 use Rattle.bound_checker.proofs.judging.judge_line.Goals as goal
 

@@ -1,4 +1,4 @@
-use Rattle.std.proofs.Common.{◌≡◌, ◌+◌, ◌≤◌, List, length, arith, ap, sym, subst}
+use Rattle.std.proofs.Common.{◌≡◌, ◌+◌, List, length, arith, ap, sym, subst}
 use Rattle.window_refuter.specs.declared.step.BoundStep.{BoundStep}
 use Rattle.bound_checker.specs.Text.{text_of}
 use Rattle.bound_checker.proofs.WrittenBounds.{lines_to, next-lines, last-line}

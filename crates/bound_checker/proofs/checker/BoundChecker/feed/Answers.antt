@@ -1,4 +1,4 @@
-use Rattle.std.proofs.Common.{◌≡◌, ◌++◌, ℕ, List, Some, None, sym, ap, subst, ◌∙◌}
+use Rattle.std.proofs.Common.{◌≡◌, ◌++◌, ℕ, List, None, sym, ap, subst, ◌∙◌}
 use Rattle.rcpsp_model.specs.Project.{IsProject}
 use Rattle.bound_checker.specs.Checker.{BoundCheckerState, Runs, StandsAs, StandsFor}
 use Rattle.bound_checker.proofs.Outcomes.{runs-fed, broken-fed}
